@@ -89,9 +89,13 @@ def halves(threshold):
     return int(2 * Fraction(threshold))
 
 
+RANK = {'wins': 2, 'none': 1, 'loses': 0}
+
+
 def moves_of(lines):
-    """The answer of `moves`; each stone has the difference of the mover's threshold from the best one. Black wins up to `komi`, and White above
-    `white`, which is the same where no kos can arise."""
+    """The answer of `moves`. Black wins up to `komi`, and White above `white`, which is the same where no kos can arise. The best stones are those
+    of the best outcome with the best threshold of the mover's; each other stone has what it loses of that, but none where kos let it keep more
+    and yet come out worse."""
     told = dict(pairs_of(lines[:3]))
     moves = []
     for word, rest in pairs_of(lines[3:]):
@@ -99,10 +103,11 @@ def moves_of(lines):
         moves.append({'move': name, 'outcome': outcome, 'wins': outcome == 'wins', 'komi': komi[0] if komi else None, 'white': komi[-1] if komi else None})
     stones = [move for move in moves if move['komi'] is not None]
     sign, own = (1, 'komi') if told['side'] == 'black' else (-1, 'white')
-    best = max((sign * halves(move[own]) for move in stones), default=None)
+    merits = {move['move']: (RANK[move['outcome']], sign * halves(move[own])) for move in stones}
+    best = max(merits.values(), default=None)
     for move in stones:
-        loss = best - sign * halves(move[own])
-        move['loss'], move['best'] = komi_text(loss), loss == 0
+        loss = best[1] - merits[move['move']][1]
+        move['best'], move['loss'] = merits[move['move']] == best, komi_text(loss) if loss >= 0 else None
     return {'side': told['side'], 'komi': told['komi'], 'winner': told['winner'], 'moves': moves}
 
 

@@ -13,6 +13,11 @@ export function place(point) {
   return [point.charCodeAt(0) - 97, point.charCodeAt(1) - 97];
 }
 
+export function isOn(point, { columns, rows }) {
+  const [column, row] = place(point);
+  return column < columns && row < rows.length;
+}
+
 /** A point as boards name it: a letter without I, and the row counted from the bottom. */
 export function boardName(point, board) {
   const [column, row] = place(point);
@@ -91,7 +96,7 @@ function walls(points, board, style) {
   return drawn;
 }
 
-function stones(board, signs) {
+function stones({ board, signs, dead, seals }) {
   const drawn = [];
   board.rows.forEach((text, row) => {
     [...text].forEach((stone, column) => {
@@ -99,8 +104,10 @@ function stones(board, signs) {
       const { x, y } = at(point);
       const sign = signs[point];
       if (stone !== '.') {
-        const open = sign !== undefined && 'xo.'.includes(sign) ? ' open' : '';
-        drawn.push(shape('circle', { cx: x, cy: y, r: CELL * 0.46, class: (stone === 'X' ? 'black' : 'white') + open }));
+        const style = sign !== undefined && 'xo.'.includes(sign) ? ' open' : seals[point] ? ' seal' : '';
+        drawn.push(shape('circle', { cx: x, cy: y, r: CELL * 0.46, class: (stone === 'X' ? 'black' : 'white') + style }));
+      } else if (dead[point]) {
+        drawn.push(shape('circle', { cx: x, cy: y, r: CELL * 0.4, class: dead[point] + ' dead' }));
       }
       if (sign !== undefined && 'bBwW'.includes(sign)) {
         drawn.push(square(point, 'counted answer ' + ('bB'.includes(sign) ? 'black' : 'white'), 11));
@@ -110,16 +117,16 @@ function stones(board, signs) {
   return drawn;
 }
 
-/** What a move is worth: best moves are dark circles, others that win pale circles, moves that lose or after which nobody wins pale squares. */
+/** What a move is worth: best moves are dark circles, others that win pale circles, moves that lose or after which nobody wins pale squares. Below
+ * stands what it loses, or, where kos leave a gap, above which komi White wins. */
 function mark(move) {
   const { x, y } = at(move.move);
   const style = move.best ? 'best' : move.outcome;
   const ground = style === 'loses' || style === 'none'
     ? shape('rect', { x: x - 17, y: y - 15, width: 34, height: 30, rx: 4, class: style })
     : shape('circle', { cx: x, cy: y, r: 17, class: style });
-  const texts = move.best
-    ? [label(x, y, move.komi, 'best')]
-    : [label(x, y - 5, move.komi, style), label(x, y + 8, '\u2212' + move.loss, style + ' small')];
+  const below = move.white !== move.komi ? '>' + move.white : move.best || !move.loss ? '' : '\u2212' + move.loss;
+  const texts = below ? [label(x, y - 5, move.komi, style), label(x, y + 8, below, style + ' small')] : [label(x, y, move.komi, style)];
   return shape('g', { class: 'answer' }, ground, ...texts);
 }
 
@@ -139,7 +146,7 @@ function numbers({ moves, step }) {
 
 /** Draws the whole picture: `scene` has the board, and what is to be drawn on it. */
 export function draw(svg, scene) {
-  const { board, signs, marks, regions, moves, near, cursor, stepped, alarm, last } = scene;
+  const { board, marks, regions, moves, near, cursor, stepped, alarm, last } = scene;
   const [width, height] = [2 * EDGE + CELL * (board.columns - 1), 2 * EDGE + CELL * (board.rows.length - 1)];
   svg.setAttribute('viewBox', `0 0 ${width} ${height}`);
   svg.style.maxWidth = `${Math.max(280, width * 1.6)}px`;
@@ -147,7 +154,7 @@ export function draw(svg, scene) {
   regions.forEach((region, number) => {
     drawn.push(...region.points.map((point) => square(point, `answer shade-${number % SHADES}`)));
   });
-  drawn.push(...lines(board), ...stones(board, signs));
+  drawn.push(...lines(board), ...stones(scene));
   drawn.push(...Object.entries(marks).map(([point, colour]) => square(point, `marked ${colour}`, 17)));
   regions.forEach((region) => {
     drawn.push(...walls(region.points, board, region.point === near ? 'wall near answer' : 'wall answer'));
@@ -155,7 +162,7 @@ export function draw(svg, scene) {
   drawn.push(...moves.map(mark));
   regions.forEach((region) => {
     const { x, y } = at(region.point);
-    drawn.push(shape('g', { class: 'answer' }, label(x - 11, y - 16, region.point, 'region')));
+    drawn.push(shape('g', { class: 'answer' }, label(x - 13, y - 18, region.point, 'region')));
   });
   drawn.push(...numbers(stepped));
   if (last) {

@@ -288,7 +288,8 @@ class Desk:
                 'change': self.change, 'name': position.name, 'files': sorted(self.files), 'undo': len(self.past), 'redo': len(self.future), 'note': self.note,
                 'options': {name: getattr(position, name) for name in (
                     'after', 'komi', 'turn', 'black_prisoners', 'white_prisoners', 'tax', 'territory', 'cycles', 'positions', 'parts')},
-                'record': question.line(), 'marks': question.marks(), 'marked': question.has_marks, 'reading': not question.is_read(), 'board': question.shown_board(), 'signs': answers.SIGNS,
+                'record': question.line(), 'marks': question.marks(), 'marked': question.has_marks, **question.sealing(),
+                'reading': not question.is_read(), 'board': question.shown_board(), 'signs': answers.SIGNS,
                 **{command: data.get(command) for command in COMMANDS[1:]},
                 'refusals': question.refused, 'steps': question.steps, 'pair': question.pair(), 'closing': question.closing(),
                 'working': self.at_work(), 'game': self.table and self.table.view(),

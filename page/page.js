@@ -1,8 +1,8 @@
 // The page: asks the server for what is to be shown, draws it, and sends what the user does.
 
-import { draw, place, pointName, pointUnder } from './board.js';
+import { draw, isOn, place, pointName, pointUnder } from './board.js';
 import * as panels from './panels.js';
-import { described, summary } from './words.js';
+import { described, summary, toolTold } from './words.js';
 
 const BUSY_PAUSE = 250; // milliseconds between two questions to the server while it works
 const PAUSE = 1500;
@@ -31,6 +31,9 @@ async function send(path, body) {
     show(await receive(await fetch(path, { method: 'POST', body })));
   } catch (error) {
     byId('fault').textContent = error.message;
+    if (state.view) {
+      showSwitches(state.view); // a switch that was refused goes back
+    }
   }
 }
 
@@ -123,16 +126,15 @@ function forgetWhatHasGone(view) {
   }
 }
 
-function isOn(point, { columns, rows }) {
-  const [column, row] = place(point);
-  return column < columns && row < rows.length;
-}
-
 function showWork(working) {
   const thinking = state.view && state.view.game && state.view.game.thinking;
   const what = working ? `${working.what}: ${working.seconds} s` : thinking ? 'the program is thinking' : '';
   byId('work').textContent = what && `at work on ${what}`.replace('at work on the', 'the');
   byId('stop').hidden = !what;
+}
+
+function showSwitches(view) {
+  SWITCHES.forEach((name) => { byId(name).checked = view.options[name]; });
 }
 
 function showFile(view) {
@@ -148,7 +150,7 @@ function showFile(view) {
   set('komi', view.options.komi ?? (view.board ? view.board.komi : ''));
   set('turn', view.options.turn ?? '');
   OPTIONS.forEach((name) => set(name, view.options[name]));
-  SWITCHES.forEach((name) => { byId(name).checked = view.options[name]; });
+  showSwitches(view);
   byId('named').hidden = view.files.length < 2;
   if (byId('names').options.length !== view.files.length) {
     byId('names').replaceChildren(...view.files.map((name) => panels.make('option', {}, name)));
@@ -197,18 +199,19 @@ function showBoard() {
   const stepped = cycle ? cycle.moves : made;
   const stopped = view.refusals.find((refusal) => refusal.line.includes('no liberty'));
   const withRegions = byId('show-regions').checked && view.safe;
-  const engineMoves = view.game ? view.game.lines.filter((line) => /^engine [a-y]{2}$/.test(line)) : [];
   draw(board, {
     board: now,
     signs: view.safe ? view.safe.signs : {},
     marks: state.step === 0 && !view.game ? view.marks : {},
+    dead: now === view.board ? view.dead : {},
+    seals: now === view.board ? view.seals : {},
     regions: withRegions ? view.safe.regions : [],
     moves: !view.game && view.moves && state.step === 0 && byId('show-moves').checked ? view.moves.moves.filter((move) => move.komi !== null) : [],
     near: state.near,
     cursor: state.cursor,
     stepped: { moves: stepped, step: state.step },
     alarm: stopped ? stopped.at : null,
-    last: engineMoves.length > 0 ? engineMoves.at(-1).slice(7) : null,
+    last: view.game ? view.game.last : null,
   });
 }
 
@@ -267,20 +270,26 @@ function goTo(point) {
   tell(byId('here').textContent);
 }
 
-function tool() {
-  return document.querySelector('input[name=tool]:checked').value || null;
-}
-
 function strike(point) {
   const { view } = state;
   if (view.game) {
-    act({ action: 'play', move: point });
-  } else if (state.step > 0) {
+    return act({ action: 'play', move: point });
+  }
+  if (state.step > 0) {
     byId('fault').textContent = 'A later step is shown: go to the start to set stones.';
-  } else {
-    const chosen = tool();
-    const colour = chosen && chosen.replace('mark-', '');
-    act({ action: colour === chosen ? 'edit' : 'mark', point, colour });
+    return null;
+  }
+  const chosen = document.querySelector('input[name=tool]:checked').value || null;
+  const colour = chosen && chosen.replace('mark-', '');
+  return act({ action: colour === chosen ? 'edit' : 'mark', point, colour });
+}
+
+/** Sets a stone at the cursor, and says what then stands there. */
+async function strikeByKey() {
+  await strike(state.cursor);
+  showHere(state.cursor);
+  if (!state.view.game) {
+    tell(byId('here').textContent);
   }
 }
 
@@ -302,7 +311,7 @@ function after(count) {
 }
 
 const KEYS = {
-  Enter: () => strike(state.cursor), ' ': () => strike(state.cursor), u: undo, r: redo,
+  Enter: strikeByKey, ' ': strikeByKey, u: undo, r: redo,
   '[': () => after(state.view.record.played - 1), ']': () => after(state.view.record.played + 1), Escape: () => act({ action: 'stop' }),
   Home: () => goTo('aa'), s: () => state.view.game && act({ action: 'play', move: 'spend' }),
   b: () => pick('black'), w: () => pick('white'), x: () => pick(''), m: () => pick('mark-black'), n: () => pick('mark-white'),
@@ -311,7 +320,7 @@ const ARROWS = { ArrowLeft: [-1, 0], ArrowRight: [1, 0], ArrowUp: [0, -1], Arrow
 
 function pick(value) {
   document.querySelector(`input[name=tool][value="${value}"]`).checked = true;
-  tell(`A click sets ${value.replace('mark-', 'territory of ') || 'nothing'}`);
+  tell(toolTold(value));
 }
 
 function pressed(event) {

@@ -1,6 +1,7 @@
 // The panels beside the board. All that a file or the program says is set as text.
 
-import { SHADES, boardName } from './board.js';
+import { SHADES } from './board.js';
+import { both, moveName } from './words.js';
 
 const REMEDIES = {
   fill_pairs: { action: 'fill_pairs' },
@@ -36,13 +37,18 @@ function fill(id, children) {
   panel.replaceChildren(...children);
 }
 
+/** Brings an item of a panel's list of moves into sight. */
+function bringUp(id, which) {
+  const list = document.querySelector(`#${id} ol.moves`);
+  const item = list && list.querySelector(which);
+  if (item) {
+    list.scrollTop = item.offsetTop - list.offsetTop - list.clientHeight / 2;
+  }
+}
+
 /** A row of a table: a head and cells. */
 function row(head, ...cells) {
   return make('tr', {}, make('th', { scope: 'row' }, head), ...cells.map((cell) => make('td', {}, cell)));
-}
-
-export function both(point, view) {
-  return view.board && /^[a-y]{2}$/.test(point) ? `${point} (${boardName(point, view.board)})` : point;
 }
 
 const OUTCOMES = { wins: 'wins', loses: 'loses', none: 'nobody wins' };
@@ -59,9 +65,10 @@ export function answer(view) {
   const moves = view.moves.moves.map((move) => make('tr', { class: move.best ? 'best' : '' },
     make('td', {}, both(move.move, view)), make('td', {}, OUTCOMES[move.outcome]),
     make('td', {}, move.komi === null ? '' : span(move.komi, move.white)),
-    make('td', {}, move.komi === null ? '' : move.best ? 'best' : `\u2212${move.loss}`)));
+    make('td', {}, move.best ? 'best' : move.loss ? `\u2212${move.loss}` : '')));
   const heads = ['move', 'for ' + view.moves.side, 'Black wins', 'loses'].map((text) => make('th', { scope: 'col' }, text));
   const none = moves.length === 0 ? [make('p', {}, 'No move is legal.')] : [];
+  const withGap = view.moves.moves.some((move) => move.white !== move.komi);
   fill('answer', [
     make('h2', {}, 'Answer'),
     make('p', { class: 'winner' }, view.summary.split('.')[0] + '.'),
@@ -72,7 +79,8 @@ export function answer(view) {
     ...none,
     make('div', { class: 'scroll', tabindex: 0, role: 'region', 'aria-label': 'Moves' },
       make('table', {}, make('thead', {}, make('tr', {}, ...heads)), make('tbody', {}, ...moves))),
-    make('p', { class: 'faint' }, 'On the board: up to which komi Black wins after the move, and below what it loses against the best one. '
+    make('p', { class: 'faint' }, 'On the board: up to which komi Black wins after the move, and below, behind \u2212, what it loses against the best one'
+      + (withGap ? '; or, behind >, above which komi White wins, where in between nobody does. ' : '. ')
       + 'A dark circle is a best move, a pale circle another that wins, a pale square one that loses or after which nobody wins.'),
   ]);
 }
@@ -119,6 +127,7 @@ function valueRows(game) {
 export function refusals(view, step, act, stepTo) {
   const children = view.refusals.flatMap((refusal, number) => refusalOf(view, refusal, number, step, act, stepTo));
   fill('refusals', children);
+  bringUp('refusals', 'li.now');
 }
 
 function refusalOf(view, refusal, number, step, act, stepTo) {
@@ -146,7 +155,7 @@ function remedy(view, name, number, act) {
   }
   if (name === 'close') {
     return view.closing ? [button(id, `Close the position, judged by ${view.closing}`, () => act(action))] :
-      [make('span', { class: 'faint' }, 'docs/positions/close can not judge this position: the file has no marks, and GNU Go is not here or the board is not its own.')];
+      [make('span', { class: 'faint' }, 'No button closes this position: its file marks no territory, and GNU Go, where it is installed, judges square boards up to 19 by 19 alone.')];
   }
   return [button(id, text, () => act(action))];
 }
@@ -161,7 +170,7 @@ function steps(view, moves, step, stepTo, told) {
   const last = view.steps.length - 1;
   const items = moves.map((move, index) => make('li', { class: index + 1 === step ? 'now' : '' }, `${move.colour} ${both(move.point, view)}`));
   return [
-    make('ol', { class: 'moves' }, ...items),
+    make('ol', { class: 'moves', tabindex: 0, 'aria-label': 'Moves' }, ...items),
     make('div', { class: 'buttons' },
       button('step-first', 'Start', () => stepTo(0), step === 0),
       button('step-back', 'Back', () => stepTo(step - 1), step === 0),
@@ -183,6 +192,7 @@ export function line(view, step, stepTo) {
   }
   const told = `After stone ${step} of ${moves.length}. Black wins up to komi ${threshold}, and no stone of the line changes that.`;
   fill('play', [head, make('p', {}, 'Each stone is a best one, while some region is hot.'), ...steps(view, moves, step, stepTo, told)]);
+  bringUp('play', 'li.now');
 }
 
 export function game(view, act) {
@@ -197,7 +207,7 @@ export function game(view, act) {
         'There is no ko rule: a stone may be taken back at once. A game that the program wins ends; where nobody wins it may go round.')] : []),
     ] : []);
   }
-  const { winner, over, thinking, lines, user, spent, refused, fault } = view.game;
+  const { winner, over, thinking, moves, user, spent, refused, fault } = view.game;
   const ended = winner !== null || over;
   const turn = winner ? `${winner === 'black' ? 'Black' : 'White'} wins.` : over ? `The game ended. ${fault}` : thinking ? 'The program is thinking.' : `Your move, as ${user}.`;
   const waits = ended || thinking;
@@ -207,9 +217,11 @@ export function game(view, act) {
     make('div', { class: 'buttons' },
       button('spend', 'Give back a point', () => act({ action: 'play', move: 'spend' }), waits),
       button('half', 'Take the half', () => act({ action: 'play', move: 'half' }), waits),
-      button('take-back', 'Take back', () => act({ action: 'take_back' }), !lines.some((line) => line.startsWith('played '))),
+      button('take-back', 'Take back', () => act({ action: 'take_back' }), !moves.some((move) => move.colour === user)),
       button('end-game', 'End the game', () => act({ action: 'end_game' }))),
     make('p', { class: 'faint' }, `A click on the board plays there. Points given back: black ${spent.black}, white ${spent.white}.`),
-    make('ol', { class: 'moves', id: 'game-lines' }, ...lines.map((line) => make('li', {}, line))),
+    make('ol', { class: 'moves', id: 'game-lines', tabindex: 0, 'aria-label': 'Moves of the game' }, ...moves.map(({ number, colour, move }) =>
+      make('li', { value: number }, `${colour} ${moveName(move, view)}, ${colour === user ? 'you' : 'the program'}`))),
   ]);
+  bringUp('game', 'li:last-child');
 }

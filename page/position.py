@@ -36,7 +36,7 @@ class Position:
         """The options that the command takes, as words."""
         told = {'after': self.after, 'komi': self.komi, 'turn': self.turn,
                 'black-prisoners': self.black_prisoners or None, 'white-prisoners': self.white_prisoners or None}
-        if command not in ('board', 'safe'):
+        if command not in ('board', 'safe', UNSEALED):
             told.update({'tax': 'yes' if self.tax else None, 'positions': self.positions, 'parts': self.parts})
         if command in WITH_CYCLES and self.cycles:
             told['cycles'] = 'yes'

@@ -20,7 +20,7 @@ class Question:
         self.position = position
         self.has_unsealed = position.marks is not None and position.territory
         self.setup = None if self.has_unsealed else position.setup
-        self.unsealed = position.setup if self.has_unsealed else None  # without the marks that the page wrote
+        self.unsealed = position.setup if self.has_unsealed else None  # as it stands without its marks
         self.data, self.lines, self.refused, self.steps = {}, {}, [], []
         self.is_stopped = False
         try:
@@ -70,7 +70,7 @@ class Question:
     def next_command(self):
         if self.is_stopped or any(refusals.stops_all(refusal['line']) for refusal in self.refused):
             return None
-        if self.has_unsealed and self.unsealed is None and UNSEALED not in self.data:
+        if self.position.territory and self.unsealed is None and UNSEALED not in self.data:
             return UNSEALED
         return next((command for command in self.commands() if command not in self.data), None)
 
@@ -111,8 +111,17 @@ class Question:
     def marks(self):
         """The marks that the page wrote, by the names of their points."""
         setup = self.edited_setup()
-        marks = self.position.marks if self.has_unsealed and setup else ()
+        marks = self.position.marks if self.position.marks and setup else ()
         return {setup.board.name(point): colour for point, colour in marks}
+
+    def sealing(self):
+        """What the marks change on the board: dead stones that are taken off, and stones that seal an edge, by the names of their points."""
+        if self.setup is None or self.unsealed is None or not self.position.territory:
+            return {'dead': {}, 'seals': {}}
+        board, before = self.setup.board, self.unsealed.board.stones
+        return {
+            'dead': {board.name(point): colour for point, colour in before.items() if point not in board.stones},
+            'seals': {board.name(point): colour for point, colour in board.stones.items() if point not in before}}
 
     def line(self):
         """How many moves of the file are played, and how many there are."""

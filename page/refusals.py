@@ -10,7 +10,7 @@ ADVICE = [
      'point away from the wall.'),
     ('fault captures', 'This region changes with more than 32 captures that can return.', 'Decide a ko of it, and let the winner fill or connect.'),
     (r'fault region \S+ positions', 'Too many positions can arise in this region.',
-     'Fill what is sure so that the walls live, or allow more positions.'),
+     'Mark what is agreed as territory, or fill what is sure so that the walls live; or allow more positions.'),
     ('fault region', 'This region has more than 32 points. Mostly a wall near it is not alive, and all that it walls off, and the wall, '
      'is one region.', 'Mark what is agreed as territory; or find the chain that should be a wall and is drawn open, and give it two eyes of one point, or '
      'connect it.'),

@@ -33,7 +33,8 @@ PICTURE_POLICY = "default-src 'none'; style-src 'unsafe-inline'"
 
 # What the page may ask for, with the words that each takes.
 ACTIONS = {
-    'choose': ('name',), 'new': ('columns', 'rows'), 'edit': ('point', 'colour'), 'configure': ('options',), 'undo': (), 'redo': (), 'stop': (), 'again': (),
+    'choose': ('name',), 'new': ('columns', 'rows'), 'edit': ('point', 'colour'), 'mark': ('point', 'colour'),
+    'configure': ('options',), 'undo': (), 'redo': (), 'stop': (), 'again': (),
     'close_position': (), 'fill_pairs': (), 'begin_game': ('engine',), 'play': ('move',), 'take_back': (), 'end_game': (),
 }
 

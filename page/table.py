@@ -10,6 +10,7 @@ from position import with_moves
 from record import COLOURS, OTHER
 
 MOST_LINES = 2_000
+MOST_SHOWN = 200  # lines and moves on the page
 GAME_SECONDS = 600  # of the processor, for a whole game
 REFUSED = {
     'refused not contested': 'that point is settled, or not on the board',
@@ -68,11 +69,14 @@ class Table:
         self.game.end()
         self.begin(played[:-1])
 
+    def made(self):
+        """The moves that were made, each with its colour."""
+        sides = [self.side, OTHER[self.side]]
+        return [(sides[number % 2], move) for number, (_, move) in enumerate(self.game.moves())]
+
     def moves(self):
         """The moves as SGF has them: giving back a point and the half are passes."""
-        sides = [self.side, OTHER[self.side]]
-        made = [move for _, move in self.game.moves()]
-        return [(sides[number % 2], '' if move in ('spend', 'half') else move) for number, move in enumerate(made)]
+        return [(colour, '' if move in ('spend', 'half') else move) for colour, move in self.made()]
 
     def text(self, moves):
         return with_moves(self.position, moves)
@@ -84,14 +88,14 @@ class Table:
         self.drawn_moves, self.board = count, board or self.board
 
     def view(self):
-        game = self.game
-        spent = {colour: 0 for colour in COLOURS}
-        for number, (_, move) in enumerate(game.moves()):
-            if move == 'spend':
-                spent[self.side if number % 2 == 0 else OTHER[self.side]] += 1
+        game, made = self.game, self.made()
+        spent = {colour: made.count((colour, 'spend')) for colour in COLOURS}
+        placed = [move for colour, move in made[:self.drawn_moves or 0] if colour == self.engine and move not in ('spend', 'half')]
         last = game.lines[-1] if game.lines else ''
         return {
-            'engine': self.engine, 'user': OTHER[self.engine], 'lines': game.lines[-200:], 'board': self.board, 'spent': spent,
+            'engine': self.engine, 'user': OTHER[self.engine], 'lines': game.lines[-MOST_SHOWN:], 'board': self.board, 'spent': spent,
+            'moves': [{'number': number, 'colour': colour, 'move': move} for number, (colour, move) in enumerate(made, 1)][-MOST_SHOWN:],
+            'last': placed[-1] if placed else None,
             'thinking': game.is_thinking(), 'winner': game.winner(), 'over': game.is_over, 'refused': REFUSED.get(last, ''),
             'fault': last if last.startswith('fault') or last == 'input ended' else '',
         }

@@ -16,6 +16,7 @@ PAIR = b'(;GM[1]SZ[10:2]AB[ba][da][ab:eb]AW[ga][ia][fb:jb])'  # two neutral poin
 NEUTRAL = b'(;GM[1]SZ[10:2]AB[ba][da][ab:eb]AW[fa][ga][ia][fb:jb])'  # one neutral point
 SETTLED = b'(;GM[1]SZ[10:2]AB[ba][da:ea][ab:eb]AW[fa:ga][ia][fb:jb])'  # nothing is open
 CORRIDOR = b'(;GM[1]SZ[10:3]AB[ba][da:fa][ab:db][ac:fc]AW[ga][ia][gb:jb][gc:jc];B[eb];W[];B[fb])'
+WALLS = b'(;GM[1]SZ[7:3]AB[ca:cc]AW[ea:ec])'  # two walls without eyes, and three points between them
 PATIENCE = 20  # seconds
 
 

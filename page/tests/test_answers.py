@@ -12,8 +12,8 @@ from script import Fault
 
 class Answers(unittest.TestCase):
     def test_what_a_move_loses_is_counted_for_the_side_to_move(self):
-        for side, losses in (('black', ['0', '3']), ('white', ['3', '0'])):
-            lines = ['side ' + side, 'komi 0', 'winner black', 'stone aa wins 2', 'stone bb loses -1', 'spend wins']
+        for side, losses, outcomes in (('black', ['0', '3'], ('wins', 'loses')), ('white', ['3', '0'], ('loses', 'wins'))):
+            lines = ['side ' + side, 'komi 0', 'winner ' + side, 'stone aa %s 2' % outcomes[0], 'stone bb %s -1' % outcomes[1], 'spend wins']
             moves = answers.moves_of(lines)['moves']
             self.assertEqual([move.get('loss') for move in moves], [*losses, None])
             self.assertEqual([move.get('best') for move in moves], [losses[0] == '0', losses[1] == '0', None])
@@ -31,6 +31,11 @@ class Answers(unittest.TestCase):
         told = answers.summary({'komi': '0'}, answers.moves_of(lines), margin)
         self.assertEqual(told, 'White to move; nobody wins. Winning: aa. Black wins up to komi -0.5, White above 1, moving first, and up to 0 '
                          'where White moves first; the komi is 0.')
+
+    def test_a_move_that_loses_is_not_the_best_one(self):
+        lines = ['side black', 'komi 0', 'winner none', 'stone ea loses -0.5 -0.5', 'stone fa none -2.5 1', 'stone ga loses -3 -3']
+        moves = answers.moves_of(lines)['moves']
+        self.assertEqual([(move['best'], move['loss']) for move in moves], [(False, None), (True, '0'), (False, '0.5')])
 
     def test_a_region_with_two_values(self):
         six = '%s {1|*}\nstops 1 0\nmean 1/2\ntemperature 1/2\nleft 0:1 1/2:1/2\nright 0:0 1/2:1/2\n'

@@ -6,7 +6,7 @@ import time
 import unittest
 
 import common
-from common import CORRIDOR, NEUTRAL, PAIR, SETTLED, wait_for
+from common import CORRIDOR, NEUTRAL, PAIR, SETTLED, WALLS, wait_for
 from desk import Desk
 from engine import Limits
 from position import LONGEST_FILE, Position
@@ -60,7 +60,7 @@ class Answers(AtDesk):
         self.assertEqual([value['label'] for value in view['values'][0]['values']], ['low', 'high'])
 
     def test_territory_is_marked(self):
-        desk = self.desk(b'(;SZ[7:3]AB[ca:cc]AW[ea:ec])')
+        desk = self.desk(WALLS)
         self.settled(desk)
         desk.do('mark', 'aa', 'black')
         desk.do('mark', 'ga', 'white')
@@ -70,6 +70,27 @@ class Answers(AtDesk):
         desk.do('edit', 'da', 'black')
         self.assertEqual(self.settled(desk)['board']['rows'][0], '..XXO..')
         self.assertIn('TB[aa]', desk.sgf())
+
+    def test_marks_stay_with_other_options(self):
+        desk = self.desk(WALLS)
+        self.settled(desk)
+        desk.do('mark', 'aa', 'black')
+        desk.do('mark', 'ga', 'white')
+        desk.do('configure', {'komi': '1.5'})
+        view = self.settled(desk)
+        self.assertEqual((view['refusals'], view['board']['komi'], len(view['marks'])), ([], '1.5', 12))
+        desk.do('configure', {'territory': False})
+        view = self.settled(desk)
+        self.assertEqual((len(view['refusals']), len(view['marks'])), (1, 12))
+        desk.do('edit', 'fa', 'white')
+        self.assertEqual(len(self.settled(desk)['marks']), 12)
+
+    def test_dead_stones_and_seals_are_told(self):
+        desk = self.desk(b'(;SZ[7:3]AB[ca][cc][ga]AW[ea:ec]TB[aa:bc][cb]TW[fa:gc])', territory=True)
+        view = self.settled(desk)
+        self.assertEqual((view['dead'], view['seals']), ({'ga': 'black'}, {'cb': 'black'}))
+        self.assertEqual(view['board']['rows'], ['..X.O..'] * 3)
+        self.assertEqual(view['board']['prisoners'], {'black': 1, 'white': 1})
 
     def test_a_thermograph_is_drawn(self):
         desk = self.desk(NEUTRAL)

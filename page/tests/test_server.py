@@ -3,6 +3,7 @@
 import http.client
 import json
 import pathlib
+import re
 import signal
 import socket
 import subprocess
@@ -140,6 +141,22 @@ class What(AtServer):
                       b'{"action":"begin_game","engine":"red"}', b'{"action":"choose","name":[]}', b'{"action":"edit","point":"aa","colour":{}}'):
             self.assertEqual(self.ask('POST', self.top + 'do', given)[0], 400, given[:60])
         self.assertEqual(self.act(action='new', columns=5, rows=5)[0], 200)
+
+    def test_what_the_page_sends_is_in_the_list(self):
+        scripts = ''.join((page.HERE / name).read_text() for name in page.FILES if name.endswith('.js'))
+        sent = {name for asked in re.findall(r'action: ([^,}]*)', scripts) for name in re.findall("'([a-z_]+)'", asked)}
+        self.assertEqual(sent, set(page.ACTIONS))
+
+    def test_territory_is_marked_and_a_ko_admitted(self):
+        def shown(**given):
+            status, _, body = self.act(**given)
+            self.assertEqual(status, 200, body)
+            return json.loads(body)
+        shown(action='new', columns=2, rows=1)
+        self.assertEqual(shown(action='mark', point='aa', colour='white')['marks'], {'aa': 'white', 'ba': 'white'})
+        self.assertTrue(shown(action='configure', options={'cycles': True})['options']['cycles'])
+        shown(action='undo')
+        self.assertEqual(shown(action='undo')['marks'], {})
 
     def test_a_position_goes_out_as_a_download(self):
         _, headers, body = self.ask('GET', self.top + 'position.sgf')
