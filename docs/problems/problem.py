@@ -57,9 +57,20 @@ def moves_of(text, options=()):
     return Moves(answered('moves', text, options))
 
 
+def text_after(root, side, point):
+    """The file after a stone at the point; `root` is a file of one node."""
+    return ('%s;%s[%s])' % (root.rstrip()[:-1], side[0].upper(), point)).encode()
+
+
 def moves_after(root, side, point):
-    """The opponent's moves after a stone at the point; `root` is a file of one node."""
-    return moves_of(('%s;%s[%s])' % (root.rstrip()[:-1], side[0].upper(), point)).encode())
+    """The opponent's moves after a stone at the point."""
+    return moves_of(text_after(root, side, point))
+
+
+def line_after(root, side, point):
+    """How play goes on after a stone at the point while some part is hot: stones, each a colour and a point."""
+    line = next(line for line in answered('line', text_after(root, side, point)) if line.startswith('line '))
+    return [tuple(stone.split(':')) for stone in line.split()[2:]]
 
 
 def parts_of(text, options=()):

@@ -63,7 +63,7 @@ pub all_more : {X : Type 0} (P : X → Type 0) (xs : List X) (i : ℕ) (d : X) �
 all_more P xs i d lt all here = subst (All P) (sym (take_more xs i d lt)) (All-push P (take i xs) (get_or xs i d) all here)
 
 -- what follows from a reply
-pub if_ok : {E : Type 0} (P Q : List ℕ → Type 0) (r : Result (List ℕ) E) → ((x : List ℕ) → P x → Q x) → IfOk r P → IfOk r Q
+pub if_ok : {T E : Type 0} (P Q : T → Type 0) (r : Result T E) → ((x : T) → P x → Q x) → IfOk r P → IfOk r Q
 if_ok P Q (Ok x) f p = f x p
 if_ok P Q (Err e) f p = tt
 

@@ -1,18 +1,19 @@
 -- What a session keeps stays fit.
-use Rattle.std.proofs.Common.{◌≡◌, ◌≢◌, ◌≤◌, ◌<◌, ◌+◌, ◌-◌, ◌++◌, ◌∷◌, ℕ, ℤ, List, [], length, take, get_or, arith, inl, inr, refl, sym, ap, ◌∙◌, subst, to_z, of_z, w64}
+use Rattle.std.proofs.Common.{◌≡◌, ◌≢◌, ◌≤◌, ◌<◌, ◌+◌, ◌-◌, ◌^◌, ◌++◌, ◌∷◌, ℕ, ℤ, List, [], length, take, get_or, arith, inl, inr, refl, sym, ap, ◌∙◌, subst, to_z, of_z, w64}
 use Rattle.std.specs.List.{All}
 use Rattle.std.proofs.lemmas.Int.{fits_signed_from_abs, ints, to_z-of_z}
 use Rattle.sgf_go.specs.Komi.{IsInRange}
+use Rattle.sgf_go.specs.declared.settings.Setup.{Setup}
+use Rattle.sgf_go.specs.Position.{HasFewPrisoners, IsFit as CanBeOpened}
 use Rattle.std.proofs.lemmas.Bool.{cases_lt}
 use Rattle.std.proofs.lemmas.List.{get_or_push, length_push, take_all, take_more, take-append-le}
 use Rattle.std.proofs.lemmas.List.Elements.{All-get_or, All-push, All-take}
-use Rattle.go_grid.specs.Board.{Board}
 use Rattle.go_grid.specs.declared.grid.Colour.{Colour}
 use Rattle.go_grid.specs.declared.grid.Colour.TheVariants.{Black, White}
 use Rattle.board_session.specs.declared.position.MadeMove.{MadeMove}
 use Rattle.board_session.specs.declared.position.Position.{Position}
-use Rattle.board_session.specs.Kept.{IsFit, IsFitAfter, IsOnBoard}
-use Rattle.board_session.specs.States.{after_moves}
+use Rattle.board_session.specs.Kept.{IsFit, IsFitAfter, IsModest, IsOnBoard}
+use Rattle.board_session.specs.States.{after_moves, taken_up}
 use Rattle.board_session.specs.Tallies.{Tally, grown, number_of}
 use Rattle.board_session.specs.inner.Doing.{GrowsTo, HasRoom}
 
@@ -35,8 +36,8 @@ grown_most White Black n t = omega arith
 grown_most White White n t = omega arith
 
 -- one move more
-pub fits_next : (g : Board) (n : ℕ) (a b : Position) → IsFitAfter g n a → GrowsTo a b → IsFitAfter g (n + 1) b
-fits_next g n a b fit more = record {
+pub fits_next : (start : Position) (n : ℕ) (a b : Position) → IsFitAfter start n a → GrowsTo a b → IsFitAfter start (n + 1) b
+fits_next start n a b fit more = record {
   ground = record {
     columns = more.ground.columns ∙ fit.ground.columns;
     rows = more.ground.rows ∙ fit.ground.rows;
@@ -47,29 +48,30 @@ fits_next g n a b fit more = record {
 }
 
 -- the numbers of a session's positions can grow
-pub fits_room : (g : Board) (n : ℕ) (a : Position) → n < 10000 → IsFitAfter g n a → HasRoom a
-fits_room g n a few fit c = (omega (arith, few, fit.prisoners c), omega (arith, few, fit.passes c))
+pub fits_room : (start : Position) (n : ℕ) (a : Position) → n < 10000 → ((c : Colour) → number_of c start.prisoners < 2 ^ 39) → IsFitAfter start n a → HasRoom a
+fits_room start n a few modest fit c = (omega (arith, few, modest c, fit.prisoners c), omega (arith, few, fit.passes c))
 
 -- the position on the board fits
-pub fits_present : (halves : ℤ) (setup : Position) (moves : List MadeMove) → IsFit halves setup moves → IsFitAfter setup.board (length moves) (after_moves setup moves)
-fits_present halves setup moves fit = subst (λ l. IsFitAfter setup.board (length moves) (after_moves setup l)) (take_all (length moves) moves (omega arith)) (fit.positions (length moves) (omega arith))
+pub fits_present : (halves : ℤ) (setup : Position) (moves : List MadeMove) → IsFit halves setup moves → IsFitAfter setup (length moves) (after_moves setup moves)
+fits_present halves setup moves fit = subst (λ l. IsFitAfter setup (length moves) (after_moves setup l)) (take_all (length moves) moves (omega arith)) (fit.positions (length moves) (omega arith))
 
 -- a move more
-pub fits_push : (halves : ℤ) (setup : Position) (moves : List MadeMove) (m : MadeMove) → IsFit halves setup moves → IsFitAfter setup.board (length moves + 1) m.after
-    → IsOnBoard setup.board.columns setup.board.rows m.chosen → IsInRange m.komi_before → IsFit halves setup (moves ++ m ∷ [])
+pub fits_push : (halves : ℤ) (setup : Position) (moves : List MadeMove) (m : MadeMove) → IsFit halves setup moves → IsFitAfter setup (length moves + 1) m.after
+    → IsOnBoard setup.board.columns setup.board.rows m.chosen → IsModest m.komi_before → IsFit halves setup (moves ++ m ∷ [])
 fits_push halves setup moves m fit last on_board in_range = record {
   komi = fit.komi;
+  start = fit.start;
   positions = λ n le. elim (cases_lt n (length moves + 1)) [
     | inl lt ↦
-        subst (λ l. IsFitAfter setup.board n (after_moves setup l)) (sym (take-append-le n moves (m ∷ []) (omega (arith, lt)))) (fit.positions n (omega (arith, lt)))
+        subst (λ l. IsFitAfter setup n (after_moves setup l)) (sym (take-append-le n moves (m ∷ []) (omega (arith, lt)))) (fit.positions n (omega (arith, lt)))
     | inr past ↦
         let whole : length moves + 1 ≡ n = omega (arith, past, le, length_push moves m) in
-        subst (λ k. IsFitAfter setup.board k (after_moves setup (take k (moves ++ m ∷ [])))) whole
-        (subst (λ l. IsFitAfter setup.board (length moves + 1) (after_moves setup l)) (sym (take_all (length moves + 1) (moves ++ m ∷ []) (omega (arith, length_push moves m))))
-        (subst (IsFitAfter setup.board (length moves + 1)) (sym (after_push setup moves m)) last))
+        subst (λ k. IsFitAfter setup k (after_moves setup (take k (moves ++ m ∷ [])))) whole
+        (subst (λ l. IsFitAfter setup (length moves + 1) (after_moves setup l)) (sym (take_all (length moves + 1) (moves ++ m ∷ []) (omega (arith, length_push moves m))))
+        (subst (IsFitAfter setup (length moves + 1)) (sym (after_push setup moves m)) last))
   ];
   stones = All-push (λ x. IsOnBoard setup.board.columns setup.board.rows x.chosen) moves m fit.stones on_board;
-  komis = All-push (λ x. IsInRange x.komi_before) moves m fit.komis in_range;
+  komis = All-push (λ x. IsModest x.komi_before) moves m fit.komis in_range;
 }
 
 -- what holds of a list holds of its front
@@ -82,18 +84,46 @@ fits_pop halves setup moves rest m is whole =
     let fit = subst (IsFit halves setup) is whole in
     record {
       komi = fit.komi;
+      start = fit.start;
       positions = λ n le.
-          subst (λ l. IsFitAfter setup.board n (after_moves setup l)) (take-append-le n rest (m ∷ []) le) (fit.positions n (omega (arith, le, length_push rest m)));
+          subst (λ l. IsFitAfter setup n (after_moves setup l)) (take-append-le n rest (m ∷ []) le) (fit.positions n (omega (arith, le, length_push rest m)));
       stones = all_front (λ x. IsOnBoard setup.board.columns setup.board.rows x.chosen) rest m fit.stones;
-      komis = all_front (λ x. IsInRange x.komi_before) rest m fit.komis;
+      komis = all_front (λ x. IsModest x.komi_before) rest m fit.komis;
     }
 
 -- the komi before the last move was in range
-pub last_in_range : (halves : ℤ) (setup : Position) (moves rest : List MadeMove) (m : MadeMove) → moves ≡ rest ++ m ∷ [] → IsFit halves setup moves → IsInRange m.komi_before
-last_in_range halves setup moves rest m is whole =
+pub last_modest : (halves : ℤ) (setup : Position) (moves rest : List MadeMove) (m : MadeMove) → moves ≡ rest ++ m ∷ [] → IsFit halves setup moves → IsModest m.komi_before
+last_modest halves setup moves rest m is whole =
     let fit = subst (IsFit halves setup) is whole in
-    subst (λ x. IsInRange x.komi_before) (get_or_push rest m m (length rest) refl) (All-get_or (λ x. IsInRange x.komi_before) (rest ++ m ∷ []) (length rest) m (omega (arith, length_push rest m)) fit.komis)
+    subst (λ x. IsModest x.komi_before) (get_or_push rest m m (length rest) refl) (All-get_or (λ x. IsModest x.komi_before) (rest ++ m ∷ []) (length rest) m (omega (arith, length_push rest m)) fit.komis)
 
 -- the komi that is read again
-pub same_komi : (halves : ℤ) → IsInRange halves → to_z w64 (of_z w64 halves) ≡ halves
-same_komi halves in_range = to_z-of_z w64 halves (fits_signed_from_abs w64 halves (omega (arith, ints, in_range.0, in_range.1)))
+pub same_komi : (halves : ℤ) → IsModest halves → to_z w64 (of_z w64 halves) ≡ halves
+same_komi halves modest = to_z-of_z w64 halves (fits_signed_from_abs w64 halves (omega (arith, ints, modest)))
+
+-- a komi in the range of commands is modest
+pub modest_komi : (halves : ℤ) → IsInRange halves → IsModest halves
+modest_komi halves in_range = omega (arith, ints, in_range.0, in_range.1)
+
+-- a position that can be opened can be taken up
+pub fits_start : (setup : Setup) → CanBeOpened setup → HasFewPrisoners setup → IsFit setup.komi_halves (taken_up setup.board setup.black_prisoners setup.white_prisoners) []
+fits_start setup fit few = record {
+  komi = fit.komi;
+  start = λ c. small c;
+  positions = λ n le. let start = taken_up setup.board setup.black_prisoners setup.white_prisoners in let none_left : 0 ≡ n = omega (arith, le) in
+      subst (λ k. IsFitAfter start k (after_moves start (take k []))) none_left (record {
+        ground = record { columns = refl; rows = refl; declared = refl };
+        prisoners = λ c. omega arith;
+        passes = none;
+      });
+  stones = λ k d lt. absurd (omega (arith, lt));
+  komis = λ k d lt. absurd (omega (arith, lt));
+}
+  where
+    small : (c : Colour) → number_of c (taken_up setup.board setup.black_prisoners setup.white_prisoners).prisoners < 2 ^ 39
+    small Black = few.black
+    small White = few.white
+
+    none : (c : Colour) → number_of c (taken_up setup.board setup.black_prisoners setup.white_prisoners).passes ≤ 0
+    none Black = omega arith
+    none White = omega arith

@@ -5,3 +5,6 @@ pub mod OrderLemmas
 pub mod AnswerLemmas
 pub mod StandingLemmas
 pub mod HandicapLemmas
+pub mod GeneratingLemmas
+pub mod GeneratedLawLemmas
+pub mod SettledLemmas

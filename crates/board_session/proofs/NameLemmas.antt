@@ -4,7 +4,7 @@ use lib.Utf8.{encode}
 use Rattle.std.specs.Str.{IsUtf8, is_utf8, chars}
 use Rattle.std.proofs.lemmas.Str.{IsUtf8-from_is_utf8}
 use Rattle.board_session.specs.declared.command.Command.{Command}
-use Rattle.board_session.specs.declared.command.Command.TheVariants.{ProtocolVersion, Name, Version, KnownCommand, ListCommands, Quit, BoardSize, ClearBoard, Komi, Play, Undo, ShowBoard, ListStones, Captures, MoveHistory, QueryBoardSize, GetKomi, GetHandicap, FixedHandicap, SetFreeHandicap, Level, TimeSettings, TimeLeft}
+use Rattle.board_session.specs.declared.command.Command.TheVariants.{ProtocolVersion, Name, Version, KnownCommand, ListCommands, Quit, BoardSize, ClearBoard, Komi, Play, GenMove, RegGenMove, LoadSgf, Undo, ShowBoard, ListStones, Captures, MoveHistory, QueryBoardSize, GetKomi, GetHandicap, FixedHandicap, SetFreeHandicap, Level, TimeSettings, TimeLeft}
 use Rattle.board_session.specs.Orders.{command_word}
 
 known_text : (c : Command) → IsUtf8 (command_word c)
@@ -19,6 +19,9 @@ known_text BoardSize = IsUtf8-from_is_utf8 (command_word BoardSize) refl
 known_text ClearBoard = IsUtf8-from_is_utf8 (command_word ClearBoard) refl
 known_text Komi = IsUtf8-from_is_utf8 (command_word Komi) refl
 known_text Play = IsUtf8-from_is_utf8 (command_word Play) refl
+known_text GenMove = IsUtf8-from_is_utf8 (command_word GenMove) refl
+known_text RegGenMove = IsUtf8-from_is_utf8 (command_word RegGenMove) refl
+known_text LoadSgf = IsUtf8-from_is_utf8 (command_word LoadSgf) refl
 known_text Undo = IsUtf8-from_is_utf8 (command_word Undo) refl
 known_text ShowBoard = IsUtf8-from_is_utf8 (command_word ShowBoard) refl
 known_text ListStones = IsUtf8-from_is_utf8 (command_word ListStones) refl

@@ -7,9 +7,10 @@ use Rattle.board_session.specs.declared.position.MadeMove.{MadeMove}
 use Rattle.board_session.specs.declared.refusal.Refusal.{Refusal}
 use Rattle.board_session.specs.declared.refusal.Refusal.TheVariants.{CannotUndo, IllegalMove, UnacceptableSize}
 use Rattle.board_session.specs.declared.wanted.Wanted.{Wanted}
+use Rattle.board_session.specs.Generating.{Advice, Follows, board_move, chosen, resigned, unopened}
 use Rattle.board_session.specs.inner.Doing.{IsDone, IsMade}
 use Rattle.board_session.specs.Orders.{BoardOrder}
-use Rattle.board_session.specs.Orders.BoardOrder.{tell, known, ask, boardsize, clear_board, komi, play, undo, fixed_handicap, free_handicap, quit}
+use Rattle.board_session.specs.Orders.BoardOrder.{tell, known, ask, boardsize, clear_board, komi, play, genmove, reg_genmove, loadsgf, undo, fixed_handicap, free_handicap, quit}
 use Rattle.board_session.specs.Session.{Does, PlaysMove, Said, SetsOut, done, refused, reply_text}
 use Rattle.board_session.specs.States.{BoardState, fresh, present}
 
@@ -28,7 +29,7 @@ none_back s u id reply none same said = (refused CannotUndo, inr (none, (refl, s
 
 pub move_played : (c : Colour) (w : Wanted) (s u : BoardState) (made : MadeMove) (id reply : List ℕ) → IsMade c w s (Some made) → u ≡ record s { moves = s.moves ++ made ∷ [] }
     → reply ≡ reply_text id (done []) → IsDone (play c w) id s reply u
-move_played c w s u made id reply (m, found, makes, is) then said =
+move_played c w s u made id reply (m, found, (makes, is)) then said =
     (done [], subst (λ x. PlaysMove c x s (done []) u) (sym found) (inl (made.after, makes, refl, then ∙ ap (λ x. record s { moves = s.moves ++ x ∷ [] }) is)), said)
 
 pub move_refused : (c : Colour) (w : Wanted) (s : BoardState) (id reply : List ℕ) → IsMade c w s None → reply ≡ reply_text id (refused IllegalMove) → IsDone (play c w) id s reply s
@@ -82,3 +83,12 @@ order_grown (free_handicap words) s u said (inl h) = same_grown s u h.1.1
 order_grown (free_handicap words) s u said (inr (inl h)) = same_grown s u h.2.1
 order_grown (free_handicap words) s u said (inr (inr h)) = set_grown _ _ _ s u said h.1.2
 order_grown quit s u said h = same_grown s u h.1
+order_grown (loadsgf file after) s u said h = absurd h
+order_grown (genmove c) s u said h = absurd h
+order_grown (reg_genmove c) s u said h = absurd h
+
+pub followed_grown : (c : Colour) (a : Advice) (s u : BoardState) → Follows c a s u → length u.moves ≤ length s.moves + 1
+followed_grown c (chosen m) s u (b, makes, is) =
+    omega (arith, ap (λ x. length x.moves) is, length_push s.moves (record { colour = c; chosen = board_move m; komi_before = s.komi_halves; after = b }))
+followed_grown c resigned s u same = same_grown s u same
+followed_grown c (unopened words) s u same = same_grown s u same

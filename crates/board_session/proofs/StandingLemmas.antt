@@ -5,10 +5,13 @@ use Rattle.board_session.specs.declared.position.BoardMove.{BoardMove}
 use Rattle.board_session.specs.declared.position.MadeMove.{MadeMove}
 use Rattle.board_session.specs.declared.position.Position.{Position}
 use Rattle.board_session.specs.declared.refusal.Refusal.{Refusal}
+use Rattle.board_session.specs.Generating.{Advice, Follows, board_move, chosen, resigned, unopened}
 use Rattle.board_session.specs.Laws.{AreMade, MovesStand}
-use Rattle.board_session.specs.Orders.BoardOrder.{tell, known, ask, boardsize, clear_board, komi, play, undo, fixed_handicap, free_handicap, quit}
+use Rattle.gtp_words.specs.Loads.Fate.{failed, made as loaded, no_load}
+use Rattle.board_session.specs.Orders.{BoardOrder}
+use Rattle.board_session.specs.Orders.BoardOrder.{tell, known, ask, boardsize, clear_board, komi, play, genmove, reg_genmove, loadsgf, undo, fixed_handicap, free_handicap, quit}
 use Rattle.board_session.specs.Positions.{MakesMove}
-use Rattle.board_session.specs.Session.{PlaysMove, Said, SetsOut}
+use Rattle.board_session.specs.Session.{Does, PlaysMove, Said, SetsOut}
 use Rattle.board_session.specs.States.{BoardState, after_moves}
 
 -- a move more
@@ -34,21 +37,50 @@ set : (text : List ℕ) (why : Refusal) (points : List ℕ) (s u : BoardState) (
 set text why points s u said made (inl h) = subst (λ x. AreMade x.setup x.moves) (sym h.3) tt
 set text why points s u said made (inr h) = kept s u made h.1.1
 
+does : (order : BoardOrder) (s u : BoardState) (said : Said) → AreMade s.setup s.moves → Does order s said u → AreMade u.setup u.moves
+does (tell text) s u said made h = kept s u made h.1
+does (known word) s u said made h = kept s u made h.3
+does (ask question) s u said made h = kept s u made h.1
+does (boardsize n) s u said made (inl h) = subst (λ x. AreMade x.setup x.moves) (sym h.3) tt
+does (boardsize n) s u said made (inr h) = kept s u made h.1.1
+does clear_board s u said made h = subst (λ x. AreMade x.setup x.moves) (sym h.1) tt
+does (komi halves) s u said made h = subst (λ x. AreMade x.setup x.moves) (sym h.1) made
+does (play c w) s u said made h = played c _ s u said made h
+does undo s u said made (inl h) = subst (λ a. AreMade a u.moves) (sym h.0.setup) (made_pop s.setup u.moves h.0.last (subst (AreMade s.setup) h.0.moves made))
+does undo s u said made (inr h) = kept s u made h.1.1
+does (fixed_handicap n) s u said made (inl h) = kept s u made h.1.1
+does (fixed_handicap n) s u said made (inr (inl h)) = kept s u made h.2.1
+does (fixed_handicap n) s u said made (inr (inr h)) = set _ _ _ s u said made h.2
+does (free_handicap words) s u said made (inl h) = kept s u made h.1.1
+does (free_handicap words) s u said made (inr (inl h)) = kept s u made h.2.1
+does (free_handicap words) s u said made (inr (inr h)) = set _ _ _ s u said made h.1.2
+does quit s u said made h = kept s u made h.1
+does (loadsgf file after) s u said made h = absurd h
+does (genmove c) s u said made h = absurd h
+does (reg_genmove c) s u said made h = absurd h
+
+-- a generated move
+followed : (c : Colour) (a : Advice) (s u : BoardState) → AreMade s.setup s.moves → Follows c a s u → AreMade u.setup u.moves
+followed c (chosen m) s u made (b, makes, is) =
+    subst (λ x. AreMade x.setup x.moves) (sym is) (made_push s.setup s.moves (record { colour = c; chosen = board_move m; komi_before = s.komi_halves; after = b }) made makes)
+followed c resigned s u made same = kept s u made same
+followed c (unopened words) s u made same = kept s u made same
+
 pub moves_stand : MovesStand
-moves_stand (tell text) s u said made h = kept s u made h.1
-moves_stand (known word) s u said made h = kept s u made h.3
-moves_stand (ask question) s u said made h = kept s u made h.1
-moves_stand (boardsize n) s u said made (inl h) = subst (λ x. AreMade x.setup x.moves) (sym h.3) tt
-moves_stand (boardsize n) s u said made (inr h) = kept s u made h.1.1
-moves_stand clear_board s u said made h = subst (λ x. AreMade x.setup x.moves) (sym h.1) tt
-moves_stand (komi halves) s u said made h = subst (λ x. AreMade x.setup x.moves) (sym h.1) made
-moves_stand (play c w) s u said made h = played c _ s u said made h
-moves_stand undo s u said made (inl h) = subst (λ a. AreMade a u.moves) (sym h.0.setup) (made_pop s.setup u.moves h.0.last (subst (AreMade s.setup) h.0.moves made))
-moves_stand undo s u said made (inr h) = kept s u made h.1.1
-moves_stand (fixed_handicap n) s u said made (inl h) = kept s u made h.1.1
-moves_stand (fixed_handicap n) s u said made (inr (inl h)) = kept s u made h.2.1
-moves_stand (fixed_handicap n) s u said made (inr (inr h)) = set _ _ _ s u said made h.2
-moves_stand (free_handicap words) s u said made (inl h) = kept s u made h.1.1
-moves_stand (free_handicap words) s u said made (inr (inl h)) = kept s u made h.2.1
-moves_stand (free_handicap words) s u said made (inr (inr h)) = set _ _ _ s u said made h.1.2
-moves_stand quit s u said made h = kept s u made h.1
+moves_stand limits files (tell text) fate s u said made h = does (tell text) s u said made h.1
+moves_stand limits files (known word) fate s u said made h = does (known word) s u said made h.1
+moves_stand limits files (ask question) fate s u said made h = does (ask question) s u said made h.1
+moves_stand limits files (boardsize n) fate s u said made h = does (boardsize n) s u said made h.1
+moves_stand limits files clear_board fate s u said made h = does clear_board s u said made h.1
+moves_stand limits files (komi halves) fate s u said made h = does (komi halves) s u said made h.1
+moves_stand limits files (play c w) fate s u said made h = does (play c w) s u said made h.1
+moves_stand limits files undo fate s u said made h = does undo s u said made h.1
+moves_stand limits files (fixed_handicap n) fate s u said made h = does (fixed_handicap n) s u said made h.1
+moves_stand limits files (free_handicap words) fate s u said made h = does (free_handicap words) s u said made h.1
+moves_stand limits files quit fate s u said made h = does quit s u said made h.1
+moves_stand limits files (genmove c) fate s u said made (none, (a, advised, is, follows)) = followed c a s u made follows
+moves_stand limits files (reg_genmove c) fate s u said made h = kept s u made h.2
+moves_stand limits files (loadsgf file after) no_load s u said made h = kept s u made h.1.1
+moves_stand limits files (loadsgf file after) loaded s u said made (text, inl (setup, gives, is, then)) = subst (λ x. AreMade x.setup x.moves) (sym then) tt
+moves_stand limits files (loadsgf file after) loaded s u said made (text, inr (none, (is, same))) = kept s u made same
+moves_stand limits files (loadsgf file after) failed s u said made h = kept s u made h.1.1

@@ -1,10 +1,13 @@
 pub mod Tallies
 pub mod Positions
 pub mod States
+pub mod Generating
+pub mod GeneratedLaws
 pub mod Texts
 pub mod Handicaps
 pub mod Orders
 pub mod Session
+pub mod Written
 pub mod Kept
 pub mod Laws
 pub mod inner

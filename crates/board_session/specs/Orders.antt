@@ -1,11 +1,11 @@
 -- What the words of a line ask for.
-use Rattle.std.specs.Prelude.{◌≡◌, ◌≢◌, ◌≤◌, ℕ, ℤ, List, [], ◌∷◌, length, codes}
+use Rattle.std.specs.Prelude.{◌≡◌, ◌≢◌, ◌≤◌, ℕ, zero, suc, ℤ, Option, Some, None, List, [], ◌∷◌, length, codes}
 use Rattle.board_words.specs.Numbers.{IsNumberWord}
 use Rattle.go_grid.specs.declared.grid.Colour.{Colour}
 use Rattle.gtp_words.specs.Vertices.{IsColour}
 use Rattle.sgf_go.specs.Komi.{IsKomi}
 use Rattle.board_session.specs.declared.command.Command.{Command}
-use Rattle.board_session.specs.declared.command.Command.TheVariants.{ProtocolVersion, Name, Version, KnownCommand, ListCommands, Quit, BoardSize, ClearBoard, Komi, Play, Undo, ShowBoard, ListStones, Captures, MoveHistory, QueryBoardSize, GetKomi, GetHandicap, FixedHandicap, SetFreeHandicap, Level, TimeSettings, TimeLeft}
+use Rattle.board_session.specs.declared.command.Command.TheVariants.{ProtocolVersion, Name, Version, KnownCommand, ListCommands, Quit, BoardSize, ClearBoard, Komi, Play, GenMove, RegGenMove, LoadSgf, Undo, ShowBoard, ListStones, Captures, MoveHistory, QueryBoardSize, GetKomi, GetHandicap, FixedHandicap, SetFreeHandicap, Level, TimeSettings, TimeLeft}
 use Rattle.board_session.specs.declared.question.Question.{Question}
 use Rattle.board_session.specs.declared.question.Question.TheVariants as question
 use Rattle.board_session.specs.declared.wanted.Wanted.{Wanted}
@@ -20,6 +20,9 @@ pub data BoardOrder : Type 0 where
   clear_board : BoardOrder
   komi : ℤ → BoardOrder
   play : Colour → Wanted → BoardOrder
+  genmove : Colour → BoardOrder
+  reg_genmove : Colour → BoardOrder
+  loadsgf : List ℕ → Option ℕ → BoardOrder
   undo : BoardOrder
   fixed_handicap : ℕ → BoardOrder
   free_handicap : List (List ℕ) → BoardOrder
@@ -37,6 +40,9 @@ command_word BoardSize = codes "boardsize"
 command_word ClearBoard = codes "clear_board"
 command_word Komi = codes "komi"
 command_word Play = codes "play"
+command_word GenMove = codes "genmove"
+command_word RegGenMove = codes "reg_genmove"
+command_word LoadSgf = codes "loadsgf"
 command_word Undo = codes "undo"
 command_word ShowBoard = codes "showboard"
 command_word ListStones = codes "list_stones"
@@ -53,7 +59,7 @@ command_word TimeLeft = codes "time_left"
 
 -- the names of all commands, one a line
 abbrev pub all_commands : List ℕ
-all_commands = codes "protocol_version\nname\nversion\nknown_command\nlist_commands\nquit\nboardsize\nclear_board\nkomi\nplay\nundo\nshowboard\nlist_stones\ncaptures\nmove_history\nquery_boardsize\nget_komi\nget_handicap\nfixed_handicap\nset_free_handicap\nlevel\ntime_settings\ntime_left"
+all_commands = codes "protocol_version\nname\nversion\nknown_command\nlist_commands\nquit\nboardsize\nclear_board\nkomi\nplay\ngenmove\nreg_genmove\nloadsgf\nundo\nshowboard\nlist_stones\ncaptures\nmove_history\nquery_boardsize\nget_komi\nget_handicap\nfixed_handicap\nset_free_handicap\nlevel\ntime_settings\ntime_left"
 
 -- the order of a command without an argument
 abbrev pub FitsAlone : Command → BoardOrder → Type 0
@@ -71,20 +77,30 @@ FitsAlone GetKomi order = order ≡ ask question.Komi
 FitsAlone GetHandicap order = order ≡ ask question.Handicap
 FitsAlone _ order = ⊥
 
--- the order of a command with one argument; the level changes nothing
+-- the order of a command with one argument; the level and the number behind `undo` change nothing
 abbrev pub FitsOne : Command → List ℕ → BoardOrder → Type 0
 FitsOne KnownCommand word order = order ≡ known word
 FitsOne BoardSize word order = (n : ℕ) × IsNumberWord word n × (order ≡ boardsize n)
 FitsOne Komi word order = (halves : ℤ) × IsKomi word halves × (order ≡ komi halves)
+FitsOne GenMove word order = (c : Colour) × IsColour word c × (order ≡ genmove c)
+FitsOne RegGenMove word order = (c : Colour) × IsColour word c × (order ≡ reg_genmove c)
 FitsOne ListStones word order = (c : Colour) × IsColour word c × (order ≡ ask (question.Stones c))
 FitsOne Captures word order = (c : Colour) × IsColour word c × (order ≡ ask (question.Captures c))
+FitsOne LoadSgf word order = order ≡ loadsgf word None
 FitsOne FixedHandicap word order = (n : ℕ) × IsNumberWord word n × (order ≡ fixed_handicap n)
 FitsOne Level word order = (n : ℕ) × IsNumberWord word n × (order ≡ tell [])
+FitsOne Undo word order = (n : ℕ) × IsNumberWord word n × (order ≡ undo)
 FitsOne _ word order = ⊥
+
+-- how many moves come before the move of a number; all of the file's are replayed for 0
+abbrev pub moves_before : ℕ → Option ℕ
+moves_before zero = None
+moves_before (suc n) = Some n
 
 -- the order of a command with two arguments
 abbrev pub FitsTwo : Command → List ℕ → List ℕ → BoardOrder → Type 0
 FitsTwo Play first second order = (c : Colour) × (w : Wanted) × IsColour first c × IsWanted second w × (order ≡ play c w)
+FitsTwo LoadSgf file word order = (n : ℕ) × IsNumberWord word n × (n ≤ 1000000) × (order ≡ loadsgf file (moves_before n))
 FitsTwo _ first second order = ⊥
 
 -- the order of a command on time, which changes nothing: three numbers, or a colour and two numbers

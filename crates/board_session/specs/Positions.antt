@@ -8,21 +8,24 @@ use Rattle.gtp_words.specs.declared.vertices.Vertex.{Vertex}
 use Rattle.gtp_words.specs.Vertices.{IsVertex}
 use Rattle.gtp_words.specs.Words.{lowered}
 use Rattle.board_session.specs.declared.position.BoardMove.{BoardMove}
-use Rattle.board_session.specs.declared.position.BoardMove.TheVariants.{Stone, Pass}
+use Rattle.board_session.specs.declared.position.BoardMove.TheVariants.{Stone, Pass, Half}
 use Rattle.board_session.specs.declared.position.Position.{Position}
 use Rattle.board_session.specs.declared.wanted.Wanted.{Wanted}
 use Rattle.board_session.specs.declared.wanted.Wanted.TheVariants as wanted
 use Rattle.board_session.specs.Tallies.{grown}
 
--- a move leads from one position to another: a stone is placed, and what it takes are its colour's prisoners, or a pass is counted
+-- a move leads from one position to another: a stone is placed, and what it takes are its colour's prisoners, or a pass is counted; a
+-- move on the half-point changes the komi alone
 abbrev pub MakesMove : Colour → BoardMove → Position → Position → Type 0
 MakesMove c (Stone p) a b = (n : ℕ) × PlacesStone a.board p c b.board (Ok n) × (b.prisoners ≡ grown c n a.prisoners) × (b.passes ≡ a.passes)
 MakesMove c Pass a b = (b.board ≡ a.board) × (b.prisoners ≡ a.prisoners) × (b.passes ≡ grown c 1 a.passes)
+MakesMove c Half a b = b ≡ a
 
 -- the stone may not be placed
 abbrev pub IsIllegal : Colour → BoardMove → Position → Type 0
 IsIllegal c (Stone p) a = (e : PlaceError) × PlacesStone a.board p c a.board (Err e)
 IsIllegal c Pass a = ⊥
+IsIllegal c Half a = ⊥
 
 -- the word of a move: a point, or `pass` in either case
 abbrev pub IsWanted : List ℕ → Wanted → Type 0

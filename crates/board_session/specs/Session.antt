@@ -1,30 +1,43 @@
 -- A board session: what each order does to the state, and what is replied to a line.
-use Rattle.std.specs.Prelude.{Bool, true, false, ◌≡◌, ◌≢◌, ◌⊎◌, ◌≤◌, ◌<◌, ◌∷◌, ℕ, pos, List, [], length, codes, decimal, Option, Some, None}
+use Rattle.std.specs.Prelude.{Bool, true, false, ◌≡◌, ◌≢◌, ◌⊎◌, ◌≤◌, ◌<◌, ◌∷◌, ◌++◌, ℕ, pos, List, [], length, codes, decimal, Option, Some, None}
 use Rattle.board_words.specs.Komi.{komi_word}
+use Rattle.board_words.specs.Words.{colour_word}
 use Rattle.go_grid.specs.Board.{Board}
 use Rattle.go_grid.specs.declared.grid.Colour.{Colour}
+use Rattle.std.specs.Str.{IsUtf8}
+use Rattle.desk_io.specs.Files.{Files, told_file}
+use Rattle.sgf_go.specs.declared.settings.Settings.{Settings}
+use Rattle.sgf_go.specs.declared.settings.Setup.{Setup}
+use Rattle.endgame_solver.specs.declared.limits.Limits.{Limits}
+use Rattle.gtp_words.specs.Files.{GivesNone, GivesSetup, load_settings}
+use Rattle.gtp_words.specs.Loads.{Fate}
+use Rattle.gtp_words.specs.Loads.Fate.{failed, made, no_load}
 use Rattle.gtp_words.specs.Replies.{signed_text}
+use Rattle.gtp_words.specs.Sessions.{Answers}
 use Rattle.gtp_words.specs.Words.{AreWords, HasId, cleaned}
 use Rattle.board_session.specs.declared.command.Command.{Command}
+use Rattle.board_session.specs.declared.limits.BoardLimits.{BoardLimits}
 use Rattle.board_session.specs.declared.position.BoardMove.{BoardMove}
 use Rattle.board_session.specs.declared.position.Position.{Position}
 use Rattle.board_session.specs.declared.question.Question.{Question}
 use Rattle.board_session.specs.declared.question.Question.TheVariants as question
 use Rattle.board_session.specs.declared.refusal.Refusal.{Refusal}
-use Rattle.board_session.specs.declared.refusal.Refusal.TheVariants.{UnknownCommand, SyntaxError, UnacceptableSize, IllegalMove, CannotUndo, BoardNotEmpty, BadNumberOfStones, BadVertexList}
+use Rattle.board_session.specs.declared.refusal.Refusal.TheVariants.{UnknownCommand, SyntaxError, UnacceptableSize, IllegalMove, CannotLoadFile, CannotUndo, BoardNotEmpty, BadNumberOfStones, BadVertexList}
+use Rattle.board_session.specs.Generating.{Advice, AdvisesIn, Follows, board_move, chosen, resigned, unopened}
 use Rattle.board_session.specs.Handicaps.{CannotPut, HasPlaces, IsBare, IsSomeAstray, NamePoints, PutsStones, fixed_points}
 use Rattle.board_session.specs.Orders.{BoardOrder, Asked, Asks, command_word}
-use Rattle.board_session.specs.Orders.BoardOrder.{tell, known, ask, boardsize, clear_board, komi, play, undo, fixed_handicap, free_handicap, quit}
+use Rattle.board_session.specs.Orders.BoardOrder.{tell, known, ask, boardsize, clear_board, komi, play, genmove, reg_genmove, loadsgf, undo, fixed_handicap, free_handicap, quit}
 use Rattle.board_session.specs.Orders.Asked.{something, unknown, misfit}
 use Rattle.board_session.specs.Positions.{IsIllegal, MakesMove, move_for}
-use Rattle.board_session.specs.States.{BoardState, IsBeforeLast, fresh, present, with_move, with_stones}
+use Rattle.board_session.specs.States.{BoardState, IsBeforeLast, fresh, of_setup, present, with_move, with_stones}
 use Rattle.board_session.specs.Tallies.{number_of}
-use Rattle.board_session.specs.Texts.{history_text, position_text, stones_below, vertices_text}
+use Rattle.board_session.specs.Texts.{history_text, move_text, position_text, stones_below, vertices_text}
 
--- what is said: a text, or why the order is refused
+-- what is said: a text, or why the order is refused, or in words why a position opens no game
 pub data Said : Type 0 where
   done : List ℕ → Said
   refused : Refusal → Said
+  unsolved : List ℕ → Said
 
 -- the text of a refusal
 abbrev pub refusal_text : Refusal → List ℕ
@@ -32,6 +45,7 @@ refusal_text UnknownCommand = codes "unknown command"
 refusal_text SyntaxError = codes "syntax error"
 refusal_text UnacceptableSize = codes "unacceptable size"
 refusal_text IllegalMove = codes "illegal move"
+refusal_text CannotLoadFile = codes "cannot load file"
 refusal_text CannotUndo = codes "cannot undo"
 refusal_text BoardNotEmpty = codes "board not empty"
 refusal_text BadNumberOfStones = codes "invalid number of stones"
@@ -41,6 +55,25 @@ refusal_text BadVertexList = codes "bad vertex list"
 abbrev pub reply_text : List ℕ → Said → List ℕ
 reply_text id (done text) = signed_text (codes "=") id text
 reply_text id (refused why) = signed_text (codes "?") id (refusal_text why)
+reply_text id (unsolved words) = signed_text (codes "?") id (codes "cannot solve: " ++ words)
+
+-- what is said to a colour that asks for a move, on a board of the size
+abbrev pub advice_said : ℕ → ℕ → Advice → Said
+advice_said columns rows (chosen m) = done (move_text columns rows (board_move m))
+advice_said columns rows resigned = done (codes "resign")
+advice_said columns rows (unopened words) = unsolved words
+
+-- the limits of a game, in which there is no tax
+abbrev pub game_limits : BoardLimits → Limits
+game_limits limits = record { positions = limits.positions; parts = limits.parts; tax = false }
+
+-- the engine's move is said and made, if there is one
+abbrev pub Generates : Limits → Colour → BoardState → Said → BoardState → Type 0
+Generates limits c s said u = (a : Advice) × AdvisesIn limits s c a × (said ≡ advice_said (present s).board.columns (present s).board.rows a) × Follows c a s u
+
+-- the engine's move is said, if there is one
+abbrev pub Suggests : Limits → Colour → BoardState → Said → Type 0
+Suggests limits c s said = (a : Advice) × AdvisesIn limits s c a × (said ≡ advice_said (present s).board.columns (present s).board.rows a)
 
 -- the text of a part of the state
 abbrev pub answer_text : Question → BoardState → List ℕ
@@ -98,7 +131,7 @@ TakesFree words s said u =
     ⊎ ((IsBare g × IsSomeAstray g.columns g.rows words × RefusesWith BadVertexList s said u)
     ⊎ (IsBare g × ((points : List ℕ) × NamePoints g.columns g.rows words points × SetsOut [] BadVertexList points s said u)))
 
--- what an order does to the state, and what is said
+-- what an order that asks for neither a file nor a move does to the state, and what is said
 abbrev pub Does : BoardOrder → BoardState → Said → BoardState → Type 0
 Does (tell text) s said u = (said ≡ done text) × (u ≡ s)
 Does (known word) s said u = (text : List ℕ) × SaysWhetherKnown word text × (said ≡ done text) × (u ≡ s)
@@ -111,12 +144,31 @@ Does undo s said u = TakesBack s said u
 Does (fixed_handicap n) s said u = TakesFixed n s said u
 Does (free_handicap words) s said u = TakesFree words s said u
 Does quit s said u = (said ≡ done []) × (u ≡ s)
+Does (loadsgf file after) s said u = ⊥
+Does (genmove c) s said u = ⊥
+Does (reg_genmove c) s said u = ⊥
+
+-- the position of a file is taken up where it gives one, and the colour to move is said, as GNU Go does; a name that isn't UTF-8 isn't asked
+-- for
+abbrev pub TakesFile : Settings → Option Files → List ℕ → Fate → BoardState → Said → BoardState → Type 0
+TakesFile settings files file no_load s said u = (¬ IsUtf8 file) × RefusesWith CannotLoadFile s said u
+TakesFile settings files file made s said u = IsUtf8 file
+    × (((setup : Setup) × GivesSetup (told_file files file) settings setup × (said ≡ done (colour_word setup.side)) × (u ≡ of_setup setup))
+    ⊎ (GivesNone (told_file files file) settings × RefusesWith CannotLoadFile s said u))
+TakesFile settings files file failed s said u = IsUtf8 file × RefusesWith CannotLoadFile s said u
+
+-- what an order does, by what becomes of its load
+abbrev pub Obeys : BoardLimits → Option Files → BoardOrder → Fate → BoardState → Said → BoardState → Type 0
+Obeys limits files (loadsgf file after) fate s said u = TakesFile (load_settings limits.territory after) files file fate s said u
+Obeys limits files (genmove c) fate s said u = (fate ≡ no_load) × Generates (game_limits limits) c s said u
+Obeys limits files (reg_genmove c) fate s said u = (fate ≡ no_load) × Suggests (game_limits limits) c s said × (u ≡ s)
+Obeys limits files order fate s said u = (fate ≡ no_load) × Does order s said u
 
 -- what is done on what the words ask for
-abbrev pub Meets : Asked → BoardState → Said → BoardState → Type 0
-Meets (something order) s said u = Does order s said u
-Meets unknown s said u = RefusesWith UnknownCommand s said u
-Meets misfit s said u = RefusesWith SyntaxError s said u
+abbrev pub Meets : BoardLimits → Option Files → Asked → Fate → BoardState → Said → BoardState → Type 0
+Meets limits files (something order) fate s said u = Obeys limits files order fate s said u
+Meets limits files unknown fate s said u = (fate ≡ no_load) × RefusesWith UnknownCommand s said u
+Meets limits files misfit fate s said u = (fate ≡ no_load) × RefusesWith SyntaxError s said u
 
 -- whether the session ends with what was asked for
 abbrev pub is_last : Asked → Bool
@@ -124,14 +176,14 @@ is_last (something quit) = true
 is_last asked = false
 
 -- words are answered: nothing where there are none, and else by what they ask for behind the id
-abbrev pub AnswersWords : List (List ℕ) → BoardState → List ℕ → BoardState → Bool → Type 0
-AnswersWords [] s reply u last = (reply ≡ []) × (u ≡ s) × (last ≡ false)
-AnswersWords (word ∷ words) s reply u last = (id : List ℕ) × (rest : List (List ℕ)) × (asked : Asked) × (said : Said)
-    × HasId (word ∷ words) id rest × Asks rest asked × Meets asked s said u × (reply ≡ reply_text id said) × (last ≡ is_last asked)
+abbrev pub AnswersWords : BoardLimits → Option Files → List (List ℕ) → Fate → BoardState → List ℕ → BoardState → Bool → Type 0
+AnswersWords limits files [] fate s reply u last = (fate ≡ no_load) × (reply ≡ []) × (u ≡ s) × (last ≡ false)
+AnswersWords limits files (word ∷ words) fate s reply u last = (id : List ℕ) × (rest : List (List ℕ)) × (asked : Asked) × (said : Said)
+    × HasId (word ∷ words) id rest × Asks rest asked × Meets limits files asked fate s said u × (reply ≡ reply_text id said) × (last ≡ is_last asked)
 
 -- a line is answered by its words
-abbrev pub AnswersLine : List ℕ → BoardState → List ℕ → BoardState → Bool → Type 0
-AnswersLine line s reply u last = (words : List (List ℕ)) × AreWords (cleaned line) words × AnswersWords words s reply u last
+abbrev pub AnswersLine : BoardLimits → Option Files → Answers BoardState
+AnswersLine limits files line fate s reply u last = (words : List (List ℕ)) × AreWords (cleaned line) words × AnswersWords limits files words fate s reply u last
 
 -- where a session begins: an empty board of 19 by 19 without a komi
 abbrev pub first_state : BoardState

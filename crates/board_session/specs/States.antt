@@ -3,6 +3,7 @@ use Rattle.std.specs.Prelude.{◌≡◌, ◌*◌, ◌++◌, ◌∷◌, ℕ, ℤ,
 use Rattle.go_grid.specs.Board.{Board}
 use Rattle.go_grid.specs.declared.grid.Cell.TheVariants as cell
 use Rattle.go_grid.specs.declared.grid.Colour.{Colour}
+use Rattle.sgf_go.specs.declared.settings.Setup.{Setup}
 use Rattle.board_session.specs.declared.position.BoardMove.{BoardMove}
 use Rattle.board_session.specs.declared.position.MadeMove.{MadeMove}
 use Rattle.board_session.specs.declared.position.Position.{Position}
@@ -24,9 +25,13 @@ after_moves a (m ∷ moves) = after_moves m.after moves
 abbrev pub present : BoardState → Position
 present s = after_moves s.setup s.moves
 
+-- a board with these prisoners, before any move
+abbrev pub taken_up : Board → ℕ → ℕ → Position
+taken_up g black white = record { board = g; prisoners = record { black = black; white = white }; passes = record { black = 0; white = 0 } }
+
 -- a board before any move: no prisoners and no passes
 abbrev pub unplayed : Board → Position
-unplayed g = record { board = g; prisoners = record { black = 0; white = 0 }; passes = record { black = 0; white = 0 } }
+unplayed g = taken_up g 0 0
 
 -- the empty board of the size
 abbrev pub bare : ℕ → ℕ → Position
@@ -43,6 +48,15 @@ with_stones s n g = record { komi_halves = s.komi_halves; handicap = n; setup = 
 -- the state after a move more, which leads to the position
 abbrev pub with_move : BoardState → Colour → BoardMove → Position → BoardState
 with_move s c m b = record s { moves = s.moves ++ record { colour = c; chosen = m; komi_before = s.komi_halves; after = b } ∷ [] }
+
+-- the position of a file, and no moves
+abbrev pub of_setup : Setup → BoardState
+of_setup setup = record {
+  komi_halves = setup.komi_halves;
+  handicap = 0;
+  setup = taken_up setup.board setup.black_prisoners setup.white_prisoners;
+  moves = [];
+}
 
 -- the second state was that before the first one's last move
 pub record IsBeforeLast (s u : BoardState) : Type 0 where

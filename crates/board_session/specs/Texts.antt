@@ -9,7 +9,7 @@ use Rattle.go_grid.specs.declared.grid.Colour.{Colour}
 use Rattle.go_grid.specs.declared.grid.Colour.TheVariants as colour
 use Rattle.gtp_words.specs.Vertices.{capital, vertex_text}
 use Rattle.board_session.specs.declared.position.BoardMove.{BoardMove}
-use Rattle.board_session.specs.declared.position.BoardMove.TheVariants.{Stone, Pass}
+use Rattle.board_session.specs.declared.position.BoardMove.TheVariants.{Stone, Pass, Half}
 use Rattle.board_session.specs.declared.position.MadeMove.{MadeMove}
 use Rattle.board_session.specs.declared.position.Position.{Position}
 use Rattle.board_session.specs.Tallies.{Tally}
@@ -39,10 +39,11 @@ vertices_behind text columns rows (p ∷ points) = vertices_behind (joined (code
 abbrev pub vertices_text : ℕ → ℕ → List ℕ → List ℕ
 vertices_text columns rows points = vertices_behind [] columns rows points
 
--- the text of a move: its point, or `pass`
+-- the text of a move: its point, or `PASS`, in capitals as GNU Go writes it, which a move on the half-point is to a client
 abbrev pub move_text : ℕ → ℕ → BoardMove → List ℕ
 move_text columns rows (Stone p) = vertex_text columns rows p
-move_text columns rows Pass = codes "pass"
+move_text columns rows Pass = codes "PASS"
+move_text columns rows Half = codes "PASS"
 
 -- the moves, the last one first, each on a line with its colour
 unfoldable pub history_text : ℕ → ℕ → List MadeMove → List ℕ

@@ -1,3 +1,5 @@
 -- What loops and private calls keep; no public clause cites it.
+pub mod Generating
 pub mod Doing
+pub mod Obeying
 pub mod Viewed

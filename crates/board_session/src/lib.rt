@@ -1,11 +1,15 @@
 //! A board session of the Go Text Protocol, for clients that keep a board of their own: it plays by the rules of placing.
 #![tactic(auto)]
 
+mod advice;
 mod answers;
 mod board_text;
 mod command;
+mod engine;
+mod generating;
 mod handicap;
 mod laws;
+mod limits;
 mod lines;
 mod position;
 mod question;
@@ -15,6 +19,7 @@ mod session;
 mod texts;
 mod wanted;
 
-pub use laws::board_laws;
+pub use engine::{Answer, BoardEngine};
+pub use laws::{board_laws, generating_laws};
+pub use limits::BoardLimits;
 pub use position::{BoardMove, MadeMove, Position, Tally};
-pub use session::{Answer, BoardSession};

@@ -3,7 +3,7 @@
 ghost use Rattle.std.specs.Prelude.{◌≡◌, ◌+◌, ◌<◌, ◌^◌, length, IfOk, IfSome};
 ghost use Rattle.go_grid.specs.declared.grid.Colour.{Colour};
 ghost use Rattle.board_session.specs.Kept.{IsOnBoard};
-ghost use Rattle.board_session.specs.States.{bare, unplayed};
+ghost use Rattle.board_session.specs.States.{bare, taken_up, unplayed};
 ghost use Rattle.board_session.specs.Tallies.{grown, number_of};
 ghost use Rattle.board_session.specs.inner.Doing.{GrowsTo, HasRoom, IsOutcome};
 
@@ -15,8 +15,8 @@ use std::marker::Model;
 /// A number for each colour.
 #[derive(Clone, Copy, Debug, PartialEq, Eq)]
 pub struct Tally {
-    black: u32,
-    white: u32,
+    black: u64,
+    white: u64,
 }
 
 impl Model for Tally {
@@ -34,6 +34,8 @@ impl Model for Tally {
 pub enum BoardMove {
     Stone(Point),
     Pass,
+    /// The engine's move on the half-point of the komi.
+    Half,
 }
 
 /// A board, and the stones that each colour has taken and the passes that it has made.
@@ -55,7 +57,7 @@ pub struct MadeMove {
 
 impl Tally {
     /// The number of a colour.
-    pub fn of(self, colour: Colour) -> u32
+    pub fn of(self, colour: Colour) -> u64
         ensures { result ≡ number_of colour self }
     {
         match colour {
@@ -65,8 +67,8 @@ impl Tally {
     }
 
     /// The numbers, of which that of the colour has grown.
-    fn grow(self, colour: Colour, more: u32) -> Tally
-        requires { number_of colour self + more < 2 ^ 32 }
+    fn grow(self, colour: Colour, more: u64) -> Tally
+        requires { number_of colour self + more < 2 ^ 64 }
         ensures { result ≡ grown colour more self }
     {
         match colour {
@@ -94,12 +96,29 @@ impl Position {
     pub(crate) fn unplayed(board: Board) -> Position
         ensures { result ≡ unplayed board }
     {
-        let none = Tally { black: 0, white: 0 };
+        Position::with_prisoners(board, 0, 0)
+    }
+
+    /// A board with these prisoners, before any move.
+    pub(crate) fn with_prisoners(board: Board, black: u64, white: u64) -> Position
+        ensures { result ≡ taken_up board black white }
+    {
         Position {
             board,
-            prisoners: none,
-            passes: none,
+            prisoners: Tally { black, white },
+            passes: Tally { black: 0, white: 0 },
         }
+    }
+
+    /// The same position once more.
+    fn copy(&self) -> Result<Position, AllocError>
+        ensures { IfOk result (λ a. a ≡ self.now) }
+    {
+        Ok(Position {
+            board: self.board.copy()?,
+            prisoners: self.prisoners,
+            passes: self.passes,
+        })
     }
 
     /// The position after a stone, where it may be placed.
@@ -113,7 +132,7 @@ impl Position {
         match place(&mut board, point, colour) {
             Ok(number) => Ok(Some(Position {
                 board,
-                prisoners: self.prisoners.grow(colour, u32::from(number)),
+                prisoners: self.prisoners.grow(colour, u64::from(number)),
                 passes: self.passes,
             })),
             Err(_) => Ok(None),
@@ -150,6 +169,7 @@ impl Position {
                 self.after_stone(colour, point)
             }
             BoardMove::Pass => self.after_pass(colour),
+            BoardMove::Half => Ok(Some(self.copy()?)),
         }
     }
 }

@@ -1,7 +1,7 @@
 //! Replies.
 
-ghost use Rattle.std.specs.Prelude.{◌≡◌, IfOk};
-ghost use Rattle.board_session.specs.Session.{done, refused, refusal_text, reply_text};
+ghost use Rattle.std.specs.Prelude.{◌≡◌, ◌++◌, IfOk, codes, string_bytes};
+ghost use Rattle.board_session.specs.Session.{done, refused, unsolved, refusal_text, reply_text};
 
 use gtp_words::compose;
 use item_list::ItemList;
@@ -14,6 +14,7 @@ pub(crate) enum Refusal {
     SyntaxError,
     UnacceptableSize,
     IllegalMove,
+    CannotLoadFile,
     CannotUndo,
     BoardNotEmpty,
     BadNumberOfStones,
@@ -29,6 +30,7 @@ impl Refusal {
             Refusal::SyntaxError => "syntax error",
             Refusal::UnacceptableSize => "unacceptable size",
             Refusal::IllegalMove => "illegal move",
+            Refusal::CannotLoadFile => "cannot load file",
             Refusal::CannotUndo => "cannot undo",
             Refusal::BoardNotEmpty => "board not empty",
             Refusal::BadNumberOfStones => "invalid number of stones",
@@ -42,6 +44,25 @@ pub(crate) fn accept(alloc: Global, id: &[u8], text: &[u8]) -> Result<ItemList<u
     ensures { IfOk result (λ reply. reply ≡ reply_text id.now (done text.now)) }
 {
     compose(alloc, b"=", id, text)
+}
+
+/// The text of a refusal where a position opens no game, in words.
+fn unsolved_text(alloc: Global, words: &str) -> Result<String, AllocError>
+    ensures { IfOk result (λ text. string_bytes text ≡ codes "cannot solve: " ++ words.now) }
+{
+    format!(in alloc; "cannot solve: {words}")
+}
+
+/// The reply where a position opens no game, in words.
+pub(crate) fn refuse_unsolved(
+    alloc: Global,
+    id: &[u8],
+    words: &str,
+) -> Result<ItemList<u8>, AllocError>
+    ensures { IfOk result (λ reply. reply ≡ reply_text id.now (unsolved words.now)) }
+{
+    let text = unsolved_text(alloc, words)?;
+    compose(alloc, b"?", id, text.as_bytes())
 }
 
 /// The reply to an order that is refused.

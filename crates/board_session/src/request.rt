@@ -1,7 +1,8 @@
 //! What the words of a line ask for.
 
-ghost use Rattle.std.specs.Prelude.{map, IfSome, IfNone};
-ghost use Rattle.board_session.specs.Orders.{Asks, BoardOrder, FitsArguments, FitsAlone, FitsFew, FitsOne, FitsThree, FitsTwo};
+ghost use Rattle.std.specs.Prelude.{◌≡◌, ◌≤◌, ℕ, map, IfSome, IfNone};
+ghost use Rattle.board_words.specs.Numbers.{IsNumberWord};
+ghost use Rattle.board_session.specs.Orders.{Asks, BoardOrder, FitsArguments, FitsAlone, FitsFew, FitsOne, FitsThree, FitsTwo, moves_before};
 ghost use Rattle.board_session.specs.inner.Doing.{AsksInRange, HasKomiInRange};
 ghost use Rattle.board_session.specs.inner.Viewed.{asked_of, order_of};
 
@@ -15,7 +16,10 @@ use sgf_go::read_komi;
 
 /// The names of all commands, one a line.
 const ALL_COMMANDS: &[u8] =
-    b"protocol_version\nname\nversion\nknown_command\nlist_commands\nquit\nboardsize\nclear_board\nkomi\nplay\nundo\nshowboard\nlist_stones\ncaptures\nmove_history\nquery_boardsize\nget_komi\nget_handicap\nfixed_handicap\nset_free_handicap\nlevel\ntime_settings\ntime_left";
+    b"protocol_version\nname\nversion\nknown_command\nlist_commands\nquit\nboardsize\nclear_board\nkomi\nplay\ngenmove\nreg_genmove\nloadsgf\nundo\nshowboard\nlist_stones\ncaptures\nmove_history\nquery_boardsize\nget_komi\nget_handicap\nfixed_handicap\nset_free_handicap\nlevel\ntime_settings\ntime_left";
+
+/// The greatest number of a file's move.
+const LAST_MOVE: u64 = 1_000_000;
 
 /// A command with its arguments.
 #[derive(Clone, Copy)]
@@ -29,6 +33,10 @@ pub(crate) enum Request<'a, 'b> {
     /// The komi in half-points.
     Komi(i64),
     Play(Colour, Wanted),
+    GenMove(Colour),
+    RegGenMove(Colour),
+    /// A file, and how many of its moves are replayed, if not all.
+    LoadSgf(&'a [u8], Option<u32>),
     Undo,
     FixedHandicap(u64),
     FreeHandicap(&'b [&'a [u8]]),
@@ -78,19 +86,48 @@ fn with_one<'a, 'b>(command: Command, word: &'a [u8]) -> Option<Request<'a, 'b>>
         Command::KnownCommand => Some(Request::Known(word)),
         Command::BoardSize => Some(Request::BoardSize(read_number(word)?)),
         Command::Komi => Some(Request::Komi(read_komi(word)?)),
+        Command::GenMove => Some(Request::GenMove(read_colour(word)?)),
+        Command::RegGenMove => Some(Request::RegGenMove(read_colour(word)?)),
         Command::ListStones => Some(Request::Ask(Question::Stones(read_colour(word)?))),
         Command::Captures => Some(Request::Ask(Question::Captures(read_colour(word)?))),
         Command::FixedHandicap => Some(Request::FixedHandicap(read_number(word)?)),
+        Command::LoadSgf => Some(Request::LoadSgf(word, None)),
         Command::Level => {
             let _level = read_number(word)?;
             Some(Request::Tell(b""))
+        }
+        Command::Undo => {
+            let _number = read_number(word)?;
+            Some(Request::Undo)
         }
         _ => None,
     }
 }
 
+/// How many moves come before the move of a number; all of the file's for 0.
+fn moves_before(number: u32) -> Option<u32>
+    ensures { result ≡ moves_before number }
+{
+    match number {
+        0 => None,
+        _ => Some(number - 1),
+    }
+}
+
+/// A number of a file's move.
+fn read_moves(word: &[u8]) -> Option<u32>
+    ensures some { IfSome result (λ n. IsNumberWord word.now n × (n ≤ LAST_MOVE)) }
+    ensures none { IfNone result ((n : ℕ) → IsNumberWord word.now n → ¬ (n ≤ LAST_MOVE)) }
+{
+    let number = read_number(word)?;
+    if number > LAST_MOVE {
+        return None;
+    }
+    Some(number as u32)
+}
+
 /// The request of a command with two arguments.
-fn with_two<'a, 'b>(command: Command, first: &[u8], second: &[u8]) -> Option<Request<'a, 'b>>
+fn with_two<'a, 'b>(command: Command, first: &'a [u8], second: &[u8]) -> Option<Request<'a, 'b>>
     ensures some { IfSome result (λ request. FitsTwo command first.now second.now
         (order_of request)) }
     ensures range { IfSome result (λ request. HasKomiInRange (order_of request)) }
@@ -99,6 +136,7 @@ fn with_two<'a, 'b>(command: Command, first: &[u8], second: &[u8]) -> Option<Req
 {
     match command {
         Command::Play => Some(Request::Play(read_colour(first)?, read_wanted(second)?)),
+        Command::LoadSgf => Some(Request::LoadSgf(first, moves_before(read_moves(second)?))),
         _ => None,
     }
 }

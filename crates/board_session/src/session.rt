@@ -1,37 +1,33 @@
 //! The session: its state, and what each order does to it.
 
-ghost use Rattle.std.specs.Prelude.{◌≡◌, ◌≤◌, ◌<◌, ◌+◌, ◌++◌, ◌∷◌, All, [], length, IfOk, IfSome, IfNone, OnOk, OnErr};
+ghost use Rattle.std.specs.Prelude.{◌≡◌, ◌<◌, ◌^◌, ◌++◌, ◌∷◌, All, [], length, IfOk, IfSome, IfNone, OnOk, OnErr};
 ghost use Rattle.desk_io.specs.declared.lines.TheConstants.{MOST_LINES};
+ghost use Rattle.go_grid.specs.declared.grid.Colour.{Colour};
 ghost use Rattle.sgf_go.specs.Komi.{IsInRange};
-ghost use Rattle.board_session.specs.Kept.{IsFitAfter, IsOnBoard};
-ghost use Rattle.board_session.specs.Orders.Asked.{something};
+ghost use Rattle.sgf_go.specs.Position.{HasFewPrisoners, IsFit};
+ghost use Rattle.board_session.specs.Kept.{IsFitAfter, IsModest, IsOnBoard};
 ghost use Rattle.board_session.specs.Orders.BoardOrder.{boardsize, clear_board, komi, play, undo};
-ghost use Rattle.board_session.specs.Session.{AnswersLine, SaysWhetherKnown, done, first_state, is_last, reply_text};
-ghost use Rattle.board_session.specs.States.{fresh, present, with_stones};
-ghost use Rattle.board_session.specs.inner.Doing.{AsksInRange, HasKomiInRange, IsDone, IsFitMove, IsLast, IsMade, IsMet};
-ghost use Rattle.board_session.specs.inner.Viewed.{asked_of, order_of};
+ghost use Rattle.board_session.specs.Session.{SaysWhetherKnown, done, first_state, reply_text};
+ghost use Rattle.board_session.specs.Tallies.{number_of};
+ghost use Rattle.board_session.specs.States.{fresh, of_setup, present, with_stones};
+ghost use Rattle.board_session.specs.inner.Doing.{HasKomiInRange, IsDone, IsFitMove, IsLast, IsMade, IsPlainOrder};
+ghost use Rattle.board_session.specs.inner.Generating.{IsMadeBy};
+ghost use Rattle.board_session.specs.inner.Viewed.{order_of};
 
 use crate::command::read_command;
-use crate::position::{MadeMove, Position};
+use crate::position::{BoardMove, MadeMove, Position};
 use crate::refusal::{Refusal, accept, refuse};
-use crate::request::{Asked, Request, read_asked};
+use crate::request::Request;
 use crate::wanted::{Wanted, find_move};
 use go_grid::{Board, Colour, Size};
-use gtp_words::{clean, split, take_id};
 use item_list::ItemList;
+use sgf_go::Setup;
 use std::alloc::{AllocError, Global};
 use std::marker::Model;
 
-/// The reply to a line, and whether the session ends with it.
-#[derive(Debug, Drop)]
-pub struct Answer {
-    pub reply: ItemList<u8>,
-    pub quit: bool,
-}
-
 /// The komi in half-points, the number of handicap stones, the position before the first move, and the moves so far.
 #[derive(Debug, Drop)]
-pub struct BoardSession {
+pub(crate) struct BoardSession {
     setup: Position,
     moves: Vec<MadeMove>,
     komi_halves: i64,
@@ -64,16 +60,9 @@ fn known(word: &[u8]) -> &'static [u8]
     }
 }
 
-/// Whether a request ends the session.
-fn is_quit(request: &Request<'_, '_>) -> bool
-    ensures { result ≡ is_last (something (order_of request.now)) }
-{
-    matches!(request, Request::Quit)
-}
-
 impl BoardSession {
     /// A session with an empty board of 19 by 19 and no komi.
-    pub fn new(alloc: Global) -> Result<BoardSession, AllocError>
+    pub(crate) fn new(alloc: Global) -> Result<BoardSession, AllocError>
         ensures { IfOk result (λ session. session ≡ first_state) }
     {
         let size = Size {
@@ -90,7 +79,8 @@ impl BoardSession {
 
     /// The komi in half-points.
     pub(crate) fn komi_halves(&self) -> i64
-        ensures { result ≡ self.now.komi_halves }
+        ensures value { result ≡ self.now.komi_halves }
+        ensures modest { IsModest result }
     {
         self.komi_halves
     }
@@ -122,7 +112,8 @@ impl BoardSession {
     /// The position on the board.
     pub(crate) fn present(&self) -> &Position
         ensures value { result.now ≡ present self.now }
-        ensures fit { IsFitAfter self.now.setup.board (length self.now.moves) result.now }
+        ensures fit { IsFitAfter self.now.setup (length self.now.moves) result.now }
+        ensures start { (c : Colour) → number_of c self.now.setup.prisoners < 2 ^ 39 }
     {
         let moves = self.moves.as_slice();
         let number = moves.len();
@@ -135,6 +126,25 @@ impl BoardSession {
     /// Where the session's memory comes from.
     pub(crate) fn allocator(&self) -> Global {
         self.setup.board.allocator()
+    }
+
+    /// The position of a file, and no moves.
+    pub(crate) fn take_up(&mut self, setup: Setup)
+        requires fit { IsFit setup }
+        requires few { HasFewPrisoners setup }
+        ensures { self.new ≡ of_setup setup }
+    {
+        let Setup {
+            board,
+            black_prisoners,
+            white_prisoners,
+            komi_halves,
+            side: _side,
+        } = setup;
+        self.moves.clear();
+        self.setup = Position::with_prisoners(board, black_prisoners, white_prisoners);
+        self.handicap = 0;
+        self.komi_halves = komi_halves;
     }
 
     /// A board with so many handicap stones, and no moves.
@@ -179,8 +189,8 @@ impl BoardSession {
     }
 
     /// Makes this the komi.
-    fn put_komi(&mut self, halves: i64)
-        requires { IsInRange halves }
+    pub(crate) fn put_komi(&mut self, halves: i64)
+        requires { IsModest halves }
         ensures { self.new ≡ record self.old { komi_halves = halves } }
     {
         self.komi_halves = halves;
@@ -197,15 +207,18 @@ impl BoardSession {
         Ok(reply)
     }
 
-    /// The move that a word names, with the position after it, where it may be made.
-    fn make(&self, colour: Colour, wanted: Wanted) -> Result<Option<MadeMove>, AllocError>
+    /// A move of the colour with the position after it, where it may be made.
+    pub(crate) fn made(
+        &self,
+        colour: Colour,
+        chosen: BoardMove,
+    ) -> Result<Option<MadeMove>, AllocError>
         requires few { length self.now.moves < MOST_LINES }
-        ensures made { IfOk result (IsMade colour wanted self.now) }
+        requires on_board { IsOnBoard (present self.now).board.columns
+            (present self.now).board.rows chosen }
+        ensures made { IfOk result (IsMadeBy colour chosen self.now) }
         ensures fit { IfOk result (λ made. IfSome made (IsFitMove self.now)) }
     {
-        let Some(chosen) = find_move(self.present().board.size(), wanted) else {
-            return Ok(None);
-        };
         let after = self.present().after(colour, &chosen)?;
         match after {
             Some(after) => Ok(Some(MadeMove {
@@ -218,8 +231,20 @@ impl BoardSession {
         }
     }
 
+    /// The move that a word names, with the position after it, where it may be made.
+    fn make(&self, colour: Colour, wanted: Wanted) -> Result<Option<MadeMove>, AllocError>
+        requires few { length self.now.moves < MOST_LINES }
+        ensures made { IfOk result (IsMade colour wanted self.now) }
+        ensures fit { IfOk result (λ made. IfSome made (IsFitMove self.now)) }
+    {
+        let Some(chosen) = find_move(self.present().board.size(), wanted) else {
+            return Ok(None);
+        };
+        self.made(colour, chosen)
+    }
+
     /// Adds a move to those so far, or leaves them as they were where memory is refused.
-    fn add(&mut self, made: MadeMove) -> Result<(), AllocError>
+    pub(crate) fn add(&mut self, made: MadeMove) -> Result<(), AllocError>
         requires { IsFitMove self.old made }
         ensures ok { OnOk result (self.new ≡ record self.old {
           moves = self.old.moves ++ made ∷ [];
@@ -258,7 +283,7 @@ impl BoardSession {
     fn take_last(&mut self) -> Option<MadeMove>
         ensures some { IfSome result (IsLast self.old self.new) }
         ensures none { IfNone result ((self.old.moves ≡ []) × (self.new ≡ self.old)) }
-        ensures komi { IfSome result (λ made. IsInRange made.komi_before) }
+        ensures komi { IfSome result (λ made. IsModest made.komi_before) }
     {
         self.moves.pop()
     }
@@ -280,8 +305,13 @@ impl BoardSession {
         }
     }
 
-    /// Does what a request says.
-    fn obey(&mut self, id: &[u8], request: Request<'_, '_>) -> Result<ItemList<u8>, AllocError>
+    /// Does what a request that asks for neither a file nor a move says.
+    pub(crate) fn obey(
+        &mut self,
+        id: &[u8],
+        request: Request<'_, '_>,
+    ) -> Result<ItemList<u8>, AllocError>
+        requires plain { IsPlainOrder (order_of request) }
         requires few { length self.old.moves < MOST_LINES }
         requires komi { HasKomiInRange (order_of request) }
         ensures obeyed { IfOk result (λ reply. IsDone
@@ -303,59 +333,14 @@ impl BoardSession {
             }
             Request::Komi(halves) => self.set_komi(id, halves),
             Request::Play(colour, wanted) => self.play(id, colour, wanted),
+            // The engine loads files and asks for moves.
+            Request::LoadSgf(_, _) => unreachable!(),
+            Request::GenMove(_) => unreachable!(),
+            Request::RegGenMove(_) => unreachable!(),
             Request::Undo => self.take_back(id),
             Request::FixedHandicap(number) => self.set_fixed(id, number),
             Request::FreeHandicap(words) => self.set_free(id, words),
             Request::Quit => accept(alloc, id, b""),
         }
-    }
-
-    /// Answers what words ask for.
-    fn meet(&mut self, id: &[u8], asked: Asked<'_, '_>) -> Result<Answer, AllocError>
-        requires few { length self.old.moves < MOST_LINES }
-        requires komi { AsksInRange (asked_of asked) }
-        ensures met { IfOk result (λ answer. IsMet
-            (asked_of asked.entry) id.now self.old answer.reply self.new) }
-        ensures quit { IfOk result (λ answer. answer.quit ≡ is_last (asked_of asked.entry)) }
-        ensures same { OnErr result (self.new ≡ self.old) }
-    {
-        let alloc = self.setup.board.allocator();
-        match asked {
-            Asked::Something(request) => {
-                let quit = is_quit(&request);
-                let reply = self.obey(id, request)?;
-                Ok(Answer { reply, quit })
-            }
-            Asked::Unknown => {
-                let reply = refuse(alloc, id, Refusal::UnknownCommand)?;
-                Ok(Answer { reply, quit: false })
-            }
-            Asked::Misfit => {
-                let reply = refuse(alloc, id, Refusal::SyntaxError)?;
-                Ok(Answer { reply, quit: false })
-            }
-        }
-    }
-
-    /// Answers a line, or leaves the session as it was where memory is refused.
-    pub fn answer(&mut self, line: &[u8]) -> Result<Answer, AllocError>
-        requires few { length self.old.moves < MOST_LINES }
-        ensures answered { IfOk result (λ answer. AnswersLine
-            line.now self.old answer.reply self.new answer.quit) }
-        ensures same { OnErr result (self.new ≡ self.old) }
-        ensures grown { length self.new.moves ≤ length self.old.moves + 1 }
-    {
-        let alloc = self.setup.board.allocator();
-        let text = clean(alloc, line)?;
-        let words = split(alloc, &text)?;
-        if words.is_empty() {
-            return Ok(Answer {
-                reply: ItemList::new(alloc),
-                quit: false,
-            });
-        }
-        let headed = take_id(&words);
-        let answer = self.meet(headed.id, read_asked(headed.rest))?;
-        Ok(answer)
     }
 }

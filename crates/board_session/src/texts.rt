@@ -97,13 +97,14 @@ pub(crate) fn vertices_text(
 }
 
 /// The text of a move.
-fn move_text(alloc: Global, size: Size, chosen: BoardMove) -> Result<String, AllocError>
+pub(crate) fn move_text(alloc: Global, size: Size, chosen: BoardMove) -> Result<String, AllocError>
     requires { IsOnBoard size.columns size.rows chosen }
     ensures { IfOk result (λ text. string_bytes text ≡ move_text size.columns size.rows chosen) }
 {
     match chosen {
         BoardMove::Stone(point) => point_text(alloc, size, point),
-        BoardMove::Pass => String::from_str(alloc, "pass"),
+        BoardMove::Pass => String::from_str(alloc, "PASS"),
+        BoardMove::Half => String::from_str(alloc, "PASS"),
     }
 }
 

@@ -25,11 +25,20 @@ const PLAIN: Job<'static> = Job {
     engine: None,
     tax: false,
     cycles: false,
+    keep_board: false,
 };
 
 /// Words between tildes, and their jobs.
-const JOBS: [(&str, Job<'static>); 22] = [
+const JOBS: [(&str, Job<'static>); 23] = [
     ("solve~c", PLAIN),
+    (
+        "gtp~--board~yes",
+        Job {
+            command: Command::Gtp,
+            keep_board: true,
+            ..PLAIN
+        },
+    ),
     (
         "solve~c~--cycles~yes",
         Job {
@@ -200,7 +209,7 @@ const JOBS: [(&str, Job<'static>); 22] = [
 ];
 
 /// Words between tildes that are outside the grammar.
-const FAULTY: [&str; 51] = [
+const FAULTY: [&str; 54] = [
     "",
     "solve",
     "solve~",
@@ -249,6 +258,9 @@ const FAULTY: [&str; 51] = [
     "gtp~c~--parts~5",
     "gtp~--tax~no",
     "gtp~--as~black",
+    "gtp~--board~maybe",
+    "gtp~--board~yes~--cycles~yes",
+    "play~c~--board~yes",
     "mend~c",
     "--help",
     "--version",

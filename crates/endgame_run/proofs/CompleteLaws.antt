@@ -17,10 +17,10 @@ use Rattle.gd_words.specs.Task.{Task}
 use Rattle.gd_words.specs.Task.Task.{ask, calc, gtp, play, trial}
 use Rattle.endgame_run.specs.Calc.{IsCalc}
 use Rattle.endgame_run.specs.Complete.{HasManyCommands, HasManyLines, IsAnswerable, IsAnswered, IsCalm, IsComplete, IsDone, IsUnrefused, IsWithinLimits}
-use Rattle.endgame_run.specs.Engine.{IsEnginePlay}
+use Rattle.endgame_run.specs.Engine.{IsEnginePlay, session_rules}
 use Rattle.endgame_run.specs.File.{count_of, told_of}
 use Rattle.endgame_run.specs.Game.{IsPlayedGame, question_of_game}
-use Rattle.endgame_run.specs.Limits.{engine_limits, limits_of}
+use Rattle.endgame_run.specs.Limits.{limits_of}
 use Rattle.endgame_run.specs.Question.{IsAnswer, IsFileAnswer, IsPositionAnswer}
 use Rattle.endgame_run.specs.Run.{RunsTask}
 use Rattle.endgame_run.specs.Trial.{IsTrialAnswer}
@@ -132,7 +132,7 @@ game_done job word a b status.CalcLimit calm (engine, state, game, run) = absurd
 game_done job word a b status.CaptureLimit calm (engine, state, game, run) = absurd run.begun
 
 -- a session that no read and no write broke off
-engine_done : (job : Job) (a b : Known) (s : Status) → ¬ Rose a.input.reads b.input.reads → ¬ Rose a.writes b.writes → IsEnginePlay (engine_limits job) a s b → IsDone s ⊎ HasManyCommands job a s b
+engine_done : (job : Job) (a b : Known) (s : Status) → ¬ Rose a.input.reads b.input.reads → ¬ Rose a.writes b.writes → IsEnginePlay (session_rules job) a s b → IsDone s ⊎ HasManyCommands job a s b
 engine_done job a b Done read write e = inl (inl refl)
 engine_done job a b Memory read write e = inl (inr refl)
 engine_done job a b TooManyLines read write e = inr (refl, (e.failing, e.failed, map_told _ _ a.input.left (λ bytes h. (h.0, h.2.0)) e.written))

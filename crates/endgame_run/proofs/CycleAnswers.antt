@@ -18,7 +18,7 @@ use Rattle.endgame_run.specs.declared.status.Status.{Status}
 use Rattle.endgame_run.specs.declared.status.Status.TheVariants as status
 use Rattle.endgame_run.specs.inner.Refusal.{NamesCyclePoints}
 use Rattle.endgame_run.specs.inner.Top.{IsCycleReport, IsCycleValuesReport}
-use Rattle.endgame_run.proofs.RefusalLaws.{lowest_on_board}
+use Rattle.fault_words.proofs.NamedPointLemmas.{lowest_on_board}
 
 -- the points that a fault names are points of the board
 pub names_cycle_points : (setup : Setup) (limits : Limits) (fault : CycleError) → Begun setup limits most_captures (Err fault) → NamesCyclePoints (length setup.board.cells) fault

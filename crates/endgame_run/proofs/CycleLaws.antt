@@ -33,7 +33,7 @@ use Rattle.endgame_run.specs.declared.status.Status.TheVariants as status
 use Rattle.endgame_run.specs.inner.Refusal.{NamesCyclePoints}
 use Rattle.endgame_run.specs.inner.Top.{IsCycleReport, IsCycleValuesReport}
 use Rattle.endgame_run.proofs.OneStatusLaws.{HasLarge, by_status, file_or_position, large_or_small, plain_status}
-use Rattle.endgame_run.proofs.RefusalLaws.{lowest_on_board}
+use Rattle.fault_words.proofs.NamedPointLemmas.{lowest_on_board}
 
 -- a steady region has no fault
 steady_has_none : (limits : Limits) (r : Region) (f : CycleError) → IsSteadyWithin limits most_captures r → IsFaultOf limits most_captures r f → ⊥

@@ -17,6 +17,7 @@ use Rattle.engine_player.specs.Played.{BothServe, Keeping}
 use Rattle.engine_player.specs.Opening.{OpensGame}
 use Rattle.whole_rules.specs.WholeGame.{Whole}
 use Rattle.gtp_engine.proofs.WinLemmas.{win_is_kept as gtp_win_is_kept}
+use Rattle.board_session.proofs.GeneratedLawLemmas.{win_is_kept as board_win_is_kept}
 use Rattle.engine_player.specs.EngineGame.{EngineGame}
 use Rattle.whole_rules.specs.FirstWinningMove.{IsWinner}
 use Rattle.play_session.specs.declared.end.SessionEnd.TheVariants as end
@@ -163,7 +164,7 @@ module _ {H S K : Type 0} (o : Outside H S K) (job : Job) (a b : Desk H S K) (st
           λ bytes. wins_from_there g.0 g.1 bytes sound,
         )
   ]
-  keeps gtp r = gtp_win_is_kept
+  keeps gtp r = (gtp_win_is_kept, board_win_is_kept)
   keeps (ask question word) r = tt
   keeps (trial number) r = tt
   keeps (calc expression) r = tt

@@ -1,4 +1,4 @@
--- The points that faults of regions name, and what a position that isn't solved comes to.
+-- What a position that isn't solved comes to.
 use Rattle.std.proofs.Common.{◌≡◌, ℤ, ℕ, zero, suc, ◌<◌, ◌++◌, inr, refl, List, [], length, map, take, drop, get_or, sym, subst, ap, ◌∙◌, arith, append_assoc, Ok, Err, ◌∷◌}
 use Rattle.std.specs.List.{All, Contains}
 use Rattle.std.proofs.lemmas.List.{take-append-drop}
@@ -27,65 +27,9 @@ use Rattle.gd_words.specs.Task.{NeedsRegions, TakesNoCycles}
 use Rattle.gd_words.specs.declared.job.Question.{Question}
 use Rattle.gd_words.specs.declared.job.Question.TheVariants as question
 use Rattle.endgame_run.specs.Refusal.{HasStatus, IsRefused, form_line, refusal_line}
-use Rattle.endgame_run.specs.inner.Refusal.{NamesPoints}
 use Rattle.endgame_run.specs.inner.Top.{IsGameReport, IsValuesReport}
 use Rattle.endgame_run.specs.Question.{IsPositionAnswer}
 use Rattle.endgame_run.proofs.TopLaws.{refused_answer}
-
--- five pieces of a text
-pub five_pieces : (t u v w x y a b c d e : List ℕ) → t ≡ [] → u ≡ t ++ a → v ≡ u ++ b → w ≡ v ++ c → x ≡ w ++ d → y ≡ x ++ e → y ≡ a ++ (b ++ (c ++ (d ++ e)))
-five_pieces t u v w x y a b c d e f0 f1 f2 f3 f4 f5 =
-    f5 ∙ ap (λ z. z ++ e) (f4 ∙ ap (λ z. z ++ d) (f3 ∙ ap (λ z. z ++ c) (f2 ∙ ap (λ z. z ++ b) (f1 ∙ ap (λ z. z ++ a) f0)))) ∙ joined a b c d e
-  where
-    joined : (a b c d e : List ℕ) → (((a ++ b) ++ c) ++ d) ++ e ≡ a ++ (b ++ (c ++ (d ++ e)))
-    joined a b c d e = simp append_assoc
-
-plays_join : (touch : List Touch) (from mid to : List Cell) (ms ns : List CycleMove) → Plays touch from ms mid → Plays touch mid ns to → Plays touch from (ms ++ ns) to
-plays_join touch from mid to [] ns p q = subst (λ x. Plays touch x ns to) (sym p) q
-plays_join touch from mid to (m ∷ ms) ns p q = (p.0, p.1, plays_join touch p.0 mid to ms ns p.2 q)
-
--- the places of moves that can be played are those of cells
-plays_inside : (touch : List Touch) (from to : List Cell) (ms : List CycleMove) → Plays touch from ms to → All (λ m. m.place < length from) ms
-plays_inside touch from to [] p k d lt = absurd (omega arith)
-plays_inside touch from to (m ∷ ms) p zero d lt = p.1.place
-plays_inside touch from to (m ∷ ms) p (suc k) d lt = let rest = plays_inside touch p.0 to ms p.2 k d (omega arith) in omega (arith, rest, long_after p.1)
-
-cycle_inside : (touch : List Touch) (opening : List Cell) (ms : List CycleMove) (back : ℕ) → IsCycle touch opening ms back → All (λ m. m.place < length opening) ms
-cycle_inside touch opening ms back c =
-    let whole = plays_join touch opening c.returns_to c.returns_to (take back ms) (drop back ms) c.there c.again in
-    plays_inside touch opening c.returns_to ms (subst (λ l. Plays touch opening l c.returns_to) (take-append-drop back ms) whole)
-
-module _ (g : Board) (regions : List Region) (are : AreRegionsOfPlay g regions) (k : ℕ) (lt : k < length regions) where
-  here : Contains regions (region_at regions k)
-  here = Contains-get_or regions k no_region lt
-
-  -- the points of a region are points of the board
-  on_board : (p : ℕ) → Contains (region_at regions k).points p → p < length g.cells
-  on_board p h = (joined_end g.columns (IsContested g) (lowest (region_at regions k)) p (((are.each (region_at regions k) here).points p).0 h)).0
-
-  pub lowest_on_board : lowest (region_at regions k) < length g.cells
-  lowest_on_board = on_board _ (Contains-get_or (region_at regions k).points 0 0 (are.each (region_at regions k) here).proper.some)
-
-  pub cycle_on_board : (ms : List CycleMove) (back : ℕ) → IsCycle (region_at regions k).touch (region_at regions k).cells ms back
-      → All (λ m. m.1 < length g.cells) (map (named (region_at regions k)) ms)
-  cycle_on_board ms back c =
-      let r = region_at regions k in
-      All-map (λ m. m.1 < length g.cells) (named r) ms
-      (λ j d below. let inside = cycle_inside r.touch r.cells ms back c j d below in
-      on_board _ (Contains-get_or r.points (get_or ms j d).place 0 (omega (arith, inside, (are.each r here).proper.full))))
-
--- the points that a fault names are points of the board
-pub names_points : (setup : Setup) (limits : Limits) (fault : SolveError) → Begun setup limits (Err fault) → NamesPoints (length setup.board.cells) fault
-names_points setup limits (Points p n) (regions, are, first) = subst (λ q. q < length setup.board.cells) (sym first.2) (lowest_on_board setup.board regions are first.0 first.1)
-names_points setup limits (Positions p) (regions, are, (small, first)) =
-    subst (λ q. q < length setup.board.cells) (sym first.2.0) (lowest_on_board setup.board regions are first.0 first.1)
-names_points setup limits (Cycle p names back) (regions, are, (small, first)) = let c = first.2.2 in (
-  subst (λ q. q < length setup.board.cells) (sym first.2.0) (lowest_on_board setup.board regions are first.0 first.1),
-  subst (All (λ m. m.1 < length setup.board.cells)) (sym c.3) (cycle_on_board setup.board regions are first.0 first.1 c.0 back c.1),
-)
-names_points setup limits (Form p) (regions, are, (small, first)) =
-    subst (λ q. q < length setup.board.cells) (sym first.2.0) (lowest_on_board setup.board regions are first.0 first.1)
-names_points setup limits (Memory e) b = tt
 
 -- a fault is the answer of its status
 pub is_refused : (setup : Setup) (limits : Limits) (fault : SolveError) (s : Status) (text : List ℕ) → Begun setup limits (Err fault) → HasStatus fault s

@@ -1,6 +1,6 @@
 -- How the run of each command makes the run for its job, and that each status of a run has its cause and its part of a text.
 use Rattle.std.proofs.Common.{◌≡◌, ◌≢◌, ◌⊎◌, ℕ, Bool, true, false, inl, inr, sym, ap, subst, ◌∙◌, List}
-use Rattle.std.specs.Prelude.{Option}
+use Rattle.std.specs.Prelude.{Option, cond}
 use Rattle.std.specs.Option.{unwrap_or}
 use Rattle.std.specs.Io.KnownBytes.{append_known}
 use Rattle.desk_io.specs.Desk.{Desk, Input, Known, Outside, known}
@@ -12,11 +12,12 @@ use Rattle.gd_words.specs.Task.Task.{ask, calc, gtp, play, trial}
 use Rattle.sgf_go.specs.declared.settings.Settings.{Settings}
 use Rattle.endgame_solver.specs.declared.limits.Limits.{Limits}
 use Rattle.gtp_engine.specs.declared.limits.EngineLimits.{EngineLimits}
+use Rattle.board_session.specs.declared.limits.BoardLimits.{BoardLimits}
 use Rattle.endgame_run.specs.Calc.{RunsCalc}
-use Rattle.endgame_run.specs.Engine.{RunsEngine}
+use Rattle.endgame_run.specs.Engine.{RunsEngine, board_rules, engine_rules}
 use Rattle.endgame_run.specs.File.{dash, told_of}
 use Rattle.endgame_run.specs.Game.{PlaysFile, question_of_game}
-use Rattle.endgame_run.specs.Limits.{engine_limits, limits_of}
+use Rattle.endgame_run.specs.Limits.{board_limits, engine_limits, limits_of}
 use Rattle.endgame_run.specs.Output.{CountsWrites, HasCauses, HasReason, HoldsSession, IsDecided, IsPart, RefusesNoJob, WritesPart}
 use Rattle.endgame_run.specs.Question.{AnswersQuestion, AreToldSteps, IsAnswer}
 use Rattle.endgame_run.specs.Run.{AreTaskSteps, Runs, RunsTask}
@@ -66,8 +67,15 @@ module _ {H S K : Type 0} (o : Outside H S K) (job : Job) (a : Desk H S K) (stat
   pub calc_runs : (limit : ℕ) (expression : List ℕ) → job.task ≡ calc expression → limit ≡ job.parts → RunsCalc o limit expression a status b → Runs o job a status b
   calc_runs limit expression is same h = subst (λ t. RunsTask o t job a status b) (sym is) (subst (λ l. RunsCalc o l expression a status b) same h)
 
-  pub engine_runs : (limits : EngineLimits) → job.task ≡ gtp → limits ≡ engine_limits job → RunsEngine o limits a status b → Runs o job a status b
-  engine_runs limits is same h = subst (λ t. RunsTask o t job a status b) (sym is) (subst (λ l. RunsEngine o l a status b) same h)
+  pub engine_runs : (limits : EngineLimits) → job.task ≡ gtp → job.keep_board ≡ false → limits ≡ engine_limits job → RunsEngine o (engine_rules limits) a status b → Runs o job a status b
+  engine_runs limits is own same h = subst (λ t. RunsTask o t job a status b) (sym is)
+      (subst (λ k. RunsEngine o (cond k (board_rules (board_limits job)) (engine_rules (engine_limits job))) a status b) (sym own)
+      (subst (λ l. RunsEngine o (engine_rules l) a status b) same h))
+
+  pub board_runs : (limits : BoardLimits) → job.task ≡ gtp → job.keep_board ≡ true → limits ≡ board_limits job → RunsEngine o (board_rules limits) a status b → Runs o job a status b
+  board_runs limits is own same h = subst (λ t. RunsTask o t job a status b) (sym is)
+      (subst (λ k. RunsEngine o (cond k (board_rules (board_limits job)) (engine_rules (engine_limits job))) a status b) (sym own)
+      (subst (λ l. RunsEngine o (board_rules l) a status b) same h))
 
 module _ (job : Job) (i : Input) (before now : ℕ) where
   pub task_steps : (task : Task) → job.task ≡ task → AreTaskSteps task job i before now → AreTaskSteps job.task job i before now

@@ -23,12 +23,12 @@ use Rattle.report.specs.Values.{HasShownValue}
 use Rattle.play_session.specs.declared.end.SessionEnd.TheVariants as end
 use Rattle.gtp_words.specs.declared.end.GtpEnd.TheVariants as gtp_end
 use Rattle.endgame_run.specs.Cycles.{IsSteadyFor}
-use Rattle.endgame_run.specs.Engine.{AreFailedLoads, IsEngineSession}
+use Rattle.endgame_run.specs.Engine.{AreFailedLoads, IsEngineSession, session_rules}
 use Rattle.endgame_run.specs.File.{told_of}
 use Rattle.endgame_run.specs.Game.{IsGame, IsSessionOf, question_of_game}
 use Rattle.go_grid.specs.declared.grid.Colour.{Colour}
 use Rattle.engine_player.specs.EngineGame.{EngineGame}
-use Rattle.endgame_run.specs.Limits.{engine_limits, limits_of}
+use Rattle.endgame_run.specs.Limits.{limits_of}
 use Rattle.endgame_run.specs.Run.{Runs}
 use Rattle.endgame_run.specs.declared.status.Status.{Status}
 use Rattle.endgame_run.specs.declared.status.Status.TheVariants.{Done, Memory, TooManyLines}
@@ -71,7 +71,7 @@ HasManyLines job word a status = (status ≡ TooManyLines) × ((engine : Colour)
 -- 10,000 lines were read of a session of the engine, which over the bytes ends so
 abbrev pub HasManyCommands : Job → Known → Status → Known → Type 0
 HasManyCommands job a status b = (status ≡ TooManyLines) × ((failing : List ℕ) × AreFailedLoads a.input.loads b.input.loads failing
-    × IfSome a.input.left (λ bytes. (text : List ℕ) × IsEngineSession (engine_limits job) a.input.files failing bytes gtp_end.TooManyLines text))
+    × IfSome a.input.left (λ bytes. (text : List ℕ) × IsEngineSession (session_rules job) a.input.files failing bytes gtp_end.TooManyLines text))
 
 -- no refusal meets the expression within the limit of parts
 abbrev pub IsUnrefused : ℕ → List ℕ → Type 0

@@ -1,18 +1,42 @@
--- `gtp`: a session of the engine over the lines of the source: which loads may fail, how it ends, and what it writes.
-use Rattle.std.specs.Prelude.{◌≡◌, ◌⊎◌, ◌++◌, ℕ, List, length, codes, take, Option, IfSome}
+-- `gtp`: a session over the lines of the source: which loads may fail, how it ends, and what it writes.
+use Rattle.std.specs.Prelude.{◌≡◌, ◌⊎◌, ◌++◌, ℕ, List, length, codes, take, Option, IfSome, cond}
 use Rattle.std.specs.List.Sorted.{IsStrictlyIncreasing}
 use Rattle.std.specs.Io.KnownBytes.{append_known}
 use Rattle.desk_io.specs.Desk.{Desk, Known, Outside, known}
 use Rattle.desk_io.specs.Files.{Files}
 use Rattle.desk_io.specs.Outside.{Rose}
+use Rattle.gd_words.specs.Job.{Job}
 use Rattle.gtp_engine.specs.declared.limits.EngineLimits.{EngineLimits}
+use Rattle.board_session.specs.declared.limits.BoardLimits.{BoardLimits}
 use Rattle.gtp_words.specs.declared.end.GtpEnd.{GtpEnd}
 use Rattle.gtp_words.specs.declared.end.GtpEnd.TheVariants as end
-use Rattle.gtp_engine.specs.Session.{GtpStanding, IsGtpSession, WaitsToReply, BreaksOffReply, beginning}
-use Rattle.gtp_engine.specs.Written.{RoseBy}
+use Rattle.gtp_words.specs.Loads.{RoseBy}
+use Rattle.gtp_words.specs.Sessions.{Answers, BreaksOff, IsSession, Standing, Waits, beginning}
+use Rattle.gtp_engine.specs.Session as engine
+use Rattle.board_session.specs.Session as board
+use Rattle.board_session.specs.States.{BoardState}
 use Rattle.endgame_run.specs.File.{TakesAtMost, most_of_engine}
+use Rattle.endgame_run.specs.Limits.{board_limits, engine_limits}
 use Rattle.endgame_run.specs.declared.status.Status.{Status}
 use Rattle.endgame_run.specs.declared.status.Status.TheVariants.{Done, CannotRead, CannotWrite, Memory, TooManyLines}
+
+-- a kind of session: its states, what is replied to a line where the shelf holds these files, and where it begins
+pub record SessionRules : Type 1 where
+  pub State : Type 0
+  pub Reply : Option Files → Answers State
+  pub start : State
+
+-- the session of the engine within limits
+abbrev pub engine_rules : EngineLimits → SessionRules
+engine_rules limits = record { State = engine.Table; Reply = engine.AnswersLine limits; start = engine.first_table }
+
+-- the session of an engine that keeps a board, within limits
+abbrev pub board_rules : BoardLimits → SessionRules
+board_rules limits = record { State = BoardState; Reply = board.AnswersLine limits; start = board.first_state }
+
+-- the session of a job
+abbrev pub session_rules : Job → SessionRules
+session_rules job = cond job.keep_board (board_rules (board_limits job)) (engine_rules (engine_limits job))
 
 -- The numbers of loads that failed while the count of faults went from `before` to `now`: ascending, and no more of them than the number
 -- by which the count rose. Where it stands at its last value there may be any number of them.
@@ -20,13 +44,20 @@ pub record AreFailedLoads (before now : ℕ) (failing : List ℕ) : Type 0 where
   pub ascending : IsStrictlyIncreasing failing
   pub counted : RoseBy (length failing) before now
 
--- a whole session over the bytes, with its end and its text
-abbrev pub IsEngineSession : EngineLimits → Option Files → List ℕ → List ℕ → GtpEnd → List ℕ → Type 0
-IsEngineSession limits files failing bytes final text = (b : GtpStanding) × IsGtpSession limits files failing (beginning bytes) text b final
+module _ (r : SessionRules) (files : Option Files) (failing bytes : List ℕ) where
+  -- a whole session over the bytes, with its end and its text
+  abbrev pub IsEngineSession : GtpEnd → List ℕ → Type 0
+  IsEngineSession final text = (b : Standing r.State) × IsSession r.State (r.Reply files) failing (beginning r.start bytes) text b final
 
--- the replies to all lines up to one that is still to be answered
-abbrev pub AreRepliesSoFar : EngineLimits → Option Files → List ℕ → List ℕ → List ℕ → Type 0
-AreRepliesSoFar limits files failing bytes text = (b : GtpStanding) × WaitsToReply limits files failing (beginning bytes) text b
+  -- the replies to all lines up to one that is still to be answered
+  abbrev pub AreRepliesSoFar : List ℕ → Type 0
+  AreRepliesSoFar text = (b : Standing r.State) × Waits r.State (r.Reply files) failing (beginning r.start bytes) text b
+
+  -- the replies up to a fault, and the line of the fault: a read failed, or 10,000 lines were read and none of them ended the session
+  abbrev pub IsEngineStopped : Status → List ℕ → List ℕ → Type 0
+  IsEngineStopped CannotRead text line = AreRepliesSoFar text × (line ≡ codes "fault cannot read\n")
+  IsEngineStopped TooManyLines text line = IsEngineSession end.TooManyLines text × (line ≡ codes "fault lines\n")
+  IsEngineStopped status text line = ⊥
 
 -- the ends of a session that is done
 abbrev pub IsSessionOver : GtpEnd → Type 0
@@ -34,7 +65,7 @@ IsSessionOver end.Quit = Unit {0}
 IsSessionOver end.InputEnded = Unit {0}
 IsSessionOver final = ⊥
 
--- the statuses with which a run of the engine ends
+-- the statuses with which a session ends
 abbrev pub IsEngineStatus : Status → Type 0
 IsEngineStatus Done = Unit {0}
 IsEngineStatus CannotRead = Unit {0}
@@ -43,35 +74,30 @@ IsEngineStatus TooManyLines = Unit {0}
 IsEngineStatus Memory = Unit {0}
 IsEngineStatus s = ⊥
 
--- the replies up to a fault, and the line of the fault: a read failed, or 10,000 lines were read and none of them ended the session
-abbrev pub IsEngineStopped : EngineLimits → Option Files → List ℕ → List ℕ → Status → List ℕ → List ℕ → Type 0
-IsEngineStopped limits files failing bytes CannotRead text line = AreRepliesSoFar limits files failing bytes text × (line ≡ codes "fault cannot read\n")
-IsEngineStopped limits files failing bytes TooManyLines text line = IsEngineSession limits files failing bytes end.TooManyLines text × (line ≡ codes "fault lines\n")
-IsEngineStopped limits files failing bytes status text line = ⊥
+module _ (r : SessionRules) (files : Option Files) (failing bytes : List ℕ) where
+  -- What was written in answer to the bytes, by the status: the session, and the line of a fault behind it. For want of memory it is whole
+  -- replies. Where a write failed it is replies and a front part of the next one, or a front part of the fault's line.
+  abbrev pub IsEngineWritten : Option (List ℕ) → Option (List ℕ) → Status → Type 0
+  IsEngineWritten before now Done = (final : GtpEnd) × (text : List ℕ) × IsSessionOver final
+      × IsEngineSession r files failing bytes final text × (now ≡ append_known before text)
+  IsEngineWritten before now Memory = (text : List ℕ) × AreRepliesSoFar r files failing bytes text × (now ≡ append_known before text)
+  IsEngineWritten before now CannotWrite =
+      ((text : List ℕ) × BreaksOff r.State (r.Reply files) failing (beginning r.start bytes) text × (now ≡ append_known before text))
+      ⊎ ((fault : Status) × (text line : List ℕ) × (n : ℕ) × IsEngineStopped r files failing bytes fault text line × (now ≡ append_known before (text ++ take n line)))
+  IsEngineWritten before now status =
+      (text line : List ℕ) × IsEngineStopped r files failing bytes status text line × (now ≡ append_known before (text ++ line))
 
--- What the engine has written in answer to the bytes, by its status: the session, and the line of a fault behind it. For want of memory
--- it is whole replies. Where a write failed it is replies and a front part of the next one, or a front part of the fault's line.
-abbrev pub IsEngineWritten : EngineLimits → Option Files → List ℕ → List ℕ → Option (List ℕ) → Option (List ℕ) → Status → Type 0
-IsEngineWritten limits files failing bytes before now Done = (final : GtpEnd) × (text : List ℕ) × IsSessionOver final
-    × IsEngineSession limits files failing bytes final text × (now ≡ append_known before text)
-IsEngineWritten limits files failing bytes before now Memory = (text : List ℕ) × AreRepliesSoFar limits files failing bytes text × (now ≡ append_known before text)
-IsEngineWritten limits files failing bytes before now CannotWrite =
-    ((text : List ℕ) × BreaksOffReply limits files failing (beginning bytes) text × (now ≡ append_known before text))
-    ⊎ ((fault : Status) × (text line : List ℕ) × (n : ℕ) × IsEngineStopped limits files failing bytes fault text line × (now ≡ append_known before (text ++ take n line)))
-IsEngineWritten limits files failing bytes before now status =
-    (text line : List ℕ) × IsEngineStopped limits files failing bytes status text line × (now ≡ append_known before (text ++ line))
-
--- A session of the engine within the limits: its status, and its text where the source tells its bytes, for some loads that failed. A read
--- or a write that failed was counted.
-pub record IsEnginePlay (limits : EngineLimits) (a : Known) (status : Status) (b : Known) : Type 0 where
+-- A session of the kind: its status, and its text where the source tells its bytes, for some loads that failed. A read or a write that failed
+-- was counted.
+pub record IsEnginePlay (r : SessionRules) (a : Known) (status : Status) (b : Known) : Type 0 where
   pub failing : List ℕ
   pub failed : AreFailedLoads a.input.loads b.input.loads failing
   pub ends : IsEngineStatus status
   pub read : status ≡ CannotRead → Rose a.input.reads b.input.reads
   pub write : status ≡ CannotWrite → Rose a.writes b.writes
-  pub written : IfSome a.input.left (λ bytes. IsEngineWritten limits a.input.files failing bytes a.holds b.holds status)
+  pub written : IfSome a.input.left (λ bytes. IsEngineWritten r a.input.files failing bytes a.holds b.holds status)
 
--- what a session of the engine comes to
-pub record RunsEngine {H S K : Type 0} (o : Outside H S K) (limits : EngineLimits) (a : Desk H S K) (status : Status) (b : Desk H S K) : Type 0 where
-  pub played : IsEnginePlay limits (known o a) status (known o b)
+-- what a session of the kind comes to
+pub record RunsEngine {H S K : Type 0} (o : Outside H S K) (r : SessionRules) (a : Desk H S K) (status : Status) (b : Desk H S K) : Type 0 where
+  pub played : IsEnginePlay r (known o a) status (known o b)
   pub taken : TakesAtMost most_of_engine (o.sources.left a.lines) (o.sources.left b.lines)

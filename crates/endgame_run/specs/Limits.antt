@@ -2,6 +2,7 @@
 use Rattle.gd_words.specs.Job.{Job}
 use Rattle.endgame_solver.specs.declared.limits.Limits.{Limits}
 use Rattle.gtp_engine.specs.declared.limits.EngineLimits.{EngineLimits}
+use Rattle.board_session.specs.declared.limits.BoardLimits.{BoardLimits}
 
 -- the limits of a job, and whether there is a tax
 abbrev pub limits_of : Job → Limits
@@ -10,3 +11,7 @@ limits_of job = record { positions = job.positions; parts = job.parts; tax = job
 -- the limits of an engine, and whether points are declared and cycles admitted
 abbrev pub engine_limits : Job → EngineLimits
 engine_limits job = record { positions = job.positions; parts = job.parts; territory = job.settings.territory; cycles = job.cycles }
+
+-- the limits of a kept board, and whether points are declared
+abbrev pub board_limits : Job → BoardLimits
+board_limits job = record { positions = job.positions; parts = job.parts; territory = job.settings.territory }

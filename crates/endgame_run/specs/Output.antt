@@ -7,9 +7,9 @@ use Rattle.gd_words.specs.Job.{Job, SayNoJob}
 use Rattle.gd_words.specs.Task.{Task}
 use Rattle.gd_words.specs.Task.Task.{ask, calc, gtp, play, trial}
 use Rattle.endgame_run.specs.Calc.{IsCalc}
-use Rattle.endgame_run.specs.Engine.{IsEnginePlay}
+use Rattle.endgame_run.specs.Engine.{IsEnginePlay, session_rules}
 use Rattle.endgame_run.specs.Game.{IsPlayedGame, question_of_game}
-use Rattle.endgame_run.specs.Limits.{engine_limits, limits_of}
+use Rattle.endgame_run.specs.Limits.{limits_of}
 use Rattle.endgame_run.specs.Question.{IsAnswer}
 use Rattle.endgame_run.specs.Run.{Runs, RunsWords}
 use Rattle.endgame_run.specs.Trial.{IsTrialAnswer}
@@ -28,7 +28,7 @@ IsDecided gtp job = λ i j s text. ⊥
 -- a session was held: a game that was begun, or one of the engine
 abbrev pub HoldsSession : Task → Job → Known → Status → Known → Type 0
 HoldsSession (play word) job = IsPlayedGame (limits_of job) job.cycles job.engine job.settings word
-HoldsSession gtp job = IsEnginePlay (engine_limits job)
+HoldsSession gtp job = IsEnginePlay (session_rules job)
 HoldsSession task job = λ a status b. ⊥
 
 -- the cause of a status: want of memory, a write that failed and was counted, what was decided, or a session

@@ -1,9 +1,10 @@
 -- Faults of regions: their statuses and their lines.
-use Rattle.std.specs.Prelude.{◌≡◌, ℕ, List, [], ◌++◌, flat_map, codes, decimal}
+use Rattle.std.specs.Prelude.{◌≡◌, ℕ, List, [], codes}
 use Rattle.go_grid.specs.declared.grid.Colour.{Colour}
 use Rattle.go_grid.specs.Name.{point_name}
 use Rattle.go_grid.specs.Region.{Region}
-use Rattle.board_words.specs.Words.{word_line, colour_word}
+use Rattle.board_words.specs.Words.{word_line}
+use Rattle.fault_words.specs.FaultWords.{cycle_words, points_words, positions_words}
 use Rattle.sgf_go.specs.declared.settings.Setup.{Setup}
 use Rattle.region_cut.specs.Cut.{AreRegionsOfPlay}
 use Rattle.endgame_solver.specs.Faults.{AreRefused}
@@ -22,20 +23,16 @@ HasStatus (Form p) s = s ≡ status.FormLimit
 HasStatus (Memory e) s = ⊥
 
 -- a region of too many points, by its lowest one and their number
-unfoldable pub points_line : ℕ → ℕ → ℕ → List ℕ
-points_line columns p n = codes "fault region " ++ (point_name columns p ++ (codes " points " ++ (decimal n ++ codes "\n")))
+abbrev pub points_line : ℕ → ℕ → ℕ → List ℕ
+points_line columns p n = word_line (codes "fault") (points_words (point_name columns) p n)
 
 -- a region of more positions than the limit
-unfoldable pub positions_line : ℕ → ℕ → ℕ → List ℕ
-positions_line columns p limit = codes "fault region " ++ (point_name columns p ++ (codes " positions over " ++ (decimal limit ++ codes "\n")))
-
--- a move of a cycle, behind a blank
-unfoldable pub cycle_move : ℕ → Colour × ℕ → List ℕ
-cycle_move columns m = codes " " ++ (colour_word m.0 ++ (codes ":" ++ point_name columns m.1))
+abbrev pub positions_line : ℕ → ℕ → ℕ → List ℕ
+positions_line columns p limit = word_line (codes "fault") (positions_words (point_name columns) p limit)
 
 -- the moves of a cycle of a region, and after how many of them the position stands first that the last one repeats
-unfoldable pub cycle_line : ℕ → ℕ → ℕ → List (Colour × ℕ) → List ℕ
-cycle_line columns p back moves = codes "fault cycle " ++ (point_name columns p ++ (codes " " ++ (decimal back ++ (flat_map (cycle_move columns) moves ++ codes "\n"))))
+abbrev pub cycle_line : ℕ → ℕ → ℕ → List (Colour × ℕ) → List ℕ
+cycle_line columns p back moves = word_line (codes "fault") (cycle_words (point_name columns) p back moves)
 
 -- a region with a value that has no form within the limit
 abbrev pub form_line : ℕ → ℕ → List ℕ

@@ -5,10 +5,10 @@ use Rattle.gd_words.specs.Job.{IsOnlyJob, Job, SayNoJob}
 use Rattle.gd_words.specs.Task.{Task}
 use Rattle.gd_words.specs.Task.Task.{ask, calc, gtp, play, trial}
 use Rattle.endgame_run.specs.Calc.{RunsCalc}
-use Rattle.endgame_run.specs.Engine.{RunsEngine}
+use Rattle.endgame_run.specs.Engine.{RunsEngine, session_rules}
 use Rattle.endgame_run.specs.File.{told_of}
 use Rattle.endgame_run.specs.Game.{PlaysFile, question_of_game}
-use Rattle.endgame_run.specs.Limits.{engine_limits, limits_of}
+use Rattle.endgame_run.specs.Limits.{limits_of}
 use Rattle.endgame_run.specs.Question.{AnswersQuestion, AreToldSteps}
 use Rattle.endgame_run.specs.Trial.{AreTrialSteps, RunsTrial}
 use Rattle.endgame_run.specs.Written.{Finishes}
@@ -22,7 +22,7 @@ module _ {H S K : Type 0} (o : Outside H S K) where
   RunsTask (play word) job = PlaysFile o (limits_of job) job.cycles job.engine job.settings word
   RunsTask (trial number) job = RunsTrial o number
   RunsTask (calc expression) job = RunsCalc o job.parts expression
-  RunsTask gtp job = RunsEngine o (engine_limits job)
+  RunsTask gtp job = RunsEngine o (session_rules job)
 
   -- what a run for a job comes to
   abbrev pub Runs : Job → Desk H S K → Status → Desk H S K → Type 0

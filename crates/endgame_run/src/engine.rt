@@ -2,11 +2,12 @@
 
 ghost use Rattle.std.specs.Prelude.{◌≤◌};
 ghost use Rattle.desk_io.specs.Desk.{IsLater, desk, known, outside};
-ghost use Rattle.endgame_run.specs.Engine.{RunsEngine};
+ghost use Rattle.endgame_run.specs.Engine.{RunsEngine, board_rules, engine_rules};
 ghost use Rattle.endgame_run.specs.inner.Top.{IsClosed};
 
 use crate::ending::finish;
 use crate::status::Status;
+use board_session::{BoardEngine, BoardLimits};
 use desk_io::{Shelf, Sink, Source};
 use gtp_engine::{Engine, EngineLimits, GtpEnd};
 use local_graph::MOST_POSITIONS;
@@ -39,7 +40,7 @@ pub(crate) fn run_gtp<H: Shelf, S: Source, K: Sink, L: Ledger>(
     steps: &mut Steps<L>,
 ) -> Status
     requires modest { limits.positions ≤ MOST_POSITIONS }
-    ensures ran { RunsEngine (outside H.Shelf S.Source K.Sink) limits
+    ensures ran { RunsEngine (outside H.Shelf S.Source K.Sink) (engine_rules limits)
         (desk shelf.old lines.old out.old) result (desk shelf.new lines.new out.new) }
     ensures later { IsLater
         (known (outside H.Shelf S.Source K.Sink) (desk shelf.old lines.old out.old))
@@ -50,6 +51,31 @@ pub(crate) fn run_gtp<H: Shelf, S: Source, K: Sink, L: Ledger>(
     };
     let end = engine.run(shelf, lines, out, steps);
     // The call says that the list ascends.
-    let _failed = engine.failed_loads();
+    let _failed = engine.loads().failures();
+    close(end, out)
+}
+
+/// Answers the lines of the source by an engine that keeps a board, within the limits, over the files of the shelf.
+pub(crate) fn run_board<H: Shelf, S: Source, K: Sink, L: Ledger>(
+    alloc: Global,
+    limits: BoardLimits,
+    shelf: &mut H,
+    lines: &mut S,
+    out: &mut K,
+    steps: &mut Steps<L>,
+) -> Status
+    requires modest { limits.positions ≤ MOST_POSITIONS }
+    ensures ran { RunsEngine (outside H.Shelf S.Source K.Sink) (board_rules limits)
+        (desk shelf.old lines.old out.old) result (desk shelf.new lines.new out.new) }
+    ensures later { IsLater
+        (known (outside H.Shelf S.Source K.Sink) (desk shelf.old lines.old out.old))
+        (known (outside H.Shelf S.Source K.Sink) (desk shelf.new lines.new out.new)) }
+{
+    let Ok(mut engine) = BoardEngine::new(alloc, limits) else {
+        return Status::Memory;
+    };
+    let end = engine.run(shelf, lines, out, steps);
+    // The call says that the list ascends.
+    let _failed = engine.loads().failures();
     close(end, out)
 }

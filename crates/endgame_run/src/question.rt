@@ -1,6 +1,7 @@
 //! What is asked about a file, and what is answered.
 
 use crate::status::Status;
+use board_session::BoardLimits;
 use endgame_solver::Limits;
 use game_text::Text;
 use gd_words::Question;
@@ -45,6 +46,8 @@ pub(crate) enum Asked<'a> {
     Calc(Line<'a>),
     /// The engine, within limits.
     Gtp(EngineLimits),
+    /// The engine that keeps a board, within limits.
+    BoardGtp(BoardLimits),
 }
 
 /// A status and its text.

@@ -1,11 +1,22 @@
 //! The lines of faults of regions.
 
-ghost use Rattle.std.specs.Prelude.{◌≡◌, ◌<◌, ◌*◌, ◌++◌, All, IfOk, OnOk, flat_map, string_bytes};
-ghost use Rattle.endgame_run.specs.Refusal.{cycle_line, cycle_move, points_line, positions_line};
+ghost use Rattle.std.specs.Prelude.{◌≡◌, ◌<◌, ◌*◌, All, IfOk, codes, string_bytes};
+ghost use Rattle.board_words.specs.Words.{word_line};
+ghost use Rattle.endgame_run.specs.Refusal.{cycle_line, points_line, positions_line};
 
-use board_words::{colour_word, write_name};
+use board_words::write_words;
+use fault_words::{Naming, cycle_words, points_words, positions_words};
 use go_grid::{Colour, Point, Size};
 use std::alloc::{AllocError, Global};
+
+/// The line of a fault, by its words.
+fn fault_line(alloc: Global, words: &str) -> Result<String, AllocError>
+    ensures { IfOk result (λ text. string_bytes text ≡ word_line (codes "fault") words.now) }
+{
+    let mut text = String::new(alloc);
+    write_words(&mut text, "fault", words)?;
+    Ok(text)
+}
 
 /// The line of a region of too many points.
 pub(crate) fn points_text(
@@ -17,11 +28,8 @@ pub(crate) fn points_text(
     requires { lowest < size.columns * size.rows }
     ensures { IfOk result (λ text. string_bytes text ≡ points_line size.columns lowest points) }
 {
-    let mut text = String::new(alloc);
-    text.push_str("fault region ")?;
-    write_name(&mut text, size, lowest)?;
-    writeln!(text, " points {points}")?;
-    Ok(text)
+    let words = points_words(alloc, Naming::Letters, size, lowest, points)?;
+    fault_line(alloc, &words)
 }
 
 /// The line of a region of more positions than the limit.
@@ -34,37 +42,8 @@ pub(crate) fn positions_text(
     requires { lowest < size.columns * size.rows }
     ensures { IfOk result (λ text. string_bytes text ≡ positions_line size.columns lowest limit) }
 {
-    let mut text = String::new(alloc);
-    text.push_str("fault region ")?;
-    write_name(&mut text, size, lowest)?;
-    writeln!(text, " positions over {limit}")?;
-    Ok(text)
-}
-
-/// Appends a move of a cycle, behind a blank.
-#[tactic(auto, using(std::proofs::Common::append_assoc), unfolding(crate::specs::Refusal::cycle_move))]
-fn write_move(text: &mut String, size: Size, colour: Colour, point: Point) -> Result<(), AllocError>
-    requires { point < size.columns * size.rows }
-    ensures { OnOk result (string_bytes text.new ≡ string_bytes text.old ++ cycle_move size.columns
-        (colour, point)) }
-{
-    text.push_str(" ")?;
-    text.push_str(colour_word(colour))?;
-    text.push_str(":")?;
-    write_name(text, size, point)
-}
-
-/// Appends the moves of a cycle.
-#[tactic(auto, using(std::proofs::Common::append_assoc))]
-fn write_moves(text: &mut String, size: Size, moves: &[(Colour, Point)]) -> Result<(), AllocError>
-    requires { All (λ m. m.1 < size.columns * size.rows) moves.now }
-    ensures { OnOk result (string_bytes text.new ≡ string_bytes text.old ++ flat_map
-        (cycle_move size.columns) moves.now) }
-{
-    'writing: for step in moves {
-        write_move(text, size, step.0, step.1)?;
-    }
-    Ok(())
+    let words = positions_words(alloc, Naming::Letters, size, lowest, limit)?;
+    fault_line(alloc, &words)
 }
 
 /// The line of a cycle of moves that comes back to the position after `back` of them.
@@ -80,11 +59,6 @@ pub(crate) fn cycle_text(
     ensures { IfOk result
         (λ text. string_bytes text ≡ cycle_line size.columns lowest back moves.now) }
 {
-    let mut text = String::new(alloc);
-    text.push_str("fault cycle ")?;
-    write_name(&mut text, size, lowest)?;
-    write!(text, " {back}")?;
-    write_moves(&mut text, size, moves)?;
-    text.push_str("\n")?;
-    Ok(text)
+    let words = cycle_words(alloc, Naming::Letters, size, lowest, back, moves)?;
+    fault_line(alloc, &words)
 }

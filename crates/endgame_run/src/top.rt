@@ -4,6 +4,7 @@ ghost use Rattle.std.specs.Prelude.{◌≡◌, ℕ, List};
 ghost use Rattle.desk_io.specs.Desk.{IsLater, desk, input_of, known, outside};
 ghost use Rattle.gd_words.specs.Bounds.{IsInRanges};
 ghost use Rattle.gd_words.specs.Job.{IsJob};
+ghost use Rattle.gd_words.specs.Task.Task.{gtp};
 ghost use Rattle.gd_words.specs.Viewed.{texts, viewed};
 ghost use Rattle.endgame_run.specs.Limits.{engine_limits, limits_of};
 ghost use Rattle.endgame_run.specs.Run.{AreSteps, AreTaskSteps, Runs, RunsWords};
@@ -12,12 +13,13 @@ ghost use Rattle.endgame_run.specs.inner.Top.{IsAsked};
 
 use crate::calc::run_calc;
 use crate::ending::finish;
-use crate::engine::run_gtp;
+use crate::engine::{run_board, run_gtp};
 use crate::game::run_game;
 use crate::question::{Asked, Inquiry, Line, Match};
 use crate::run_question::run_question;
 use crate::status::Status;
 use crate::trial::run_trial;
+use board_session::BoardLimits;
 use desk_io::{Shelf, Sink, Source};
 use endgame_solver::Limits;
 use gd_words::{Command, Job, Question};
@@ -47,6 +49,33 @@ fn limits_of_engine(job: &Job<'_>) -> EngineLimits
         territory: job.settings.territory,
         cycles: job.cycles,
     }
+}
+
+/// The limits of an engine that keeps a board, in which there are no cycles.
+fn limits_on_board(limits: EngineLimits) -> BoardLimits
+    ensures { result ≡ record {
+      positions = limits.positions;
+      parts = limits.parts;
+      territory = limits.territory;
+    } }
+{
+    BoardLimits {
+        positions: limits.positions,
+        parts: limits.parts,
+        territory: limits.territory,
+    }
+}
+
+/// The engine of a job.
+fn engine_asked<'a>(job: &Job<'a>) -> Asked<'a>
+    requires { (viewed job.now).task ≡ gtp }
+    ensures { IsAsked (viewed job.now) result }
+{
+    let limits = limits_of_engine(job);
+    if job.keep_board {
+        return Asked::BoardGtp(limits_on_board(limits));
+    }
+    Asked::Gtp(limits)
 }
 
 /// A question about the file of a word, within the limits of a job.
@@ -88,7 +117,7 @@ fn asked<'a>(job: &Job<'a>) -> Asked<'a>
             expression,
             parts: job.parts,
         }),
-        Command::Gtp => Asked::Gtp(limits_of_engine(job)),
+        Command::Gtp => engine_asked(job),
     }
 }
 
@@ -119,6 +148,7 @@ fn run_job<H: Shelf, S: Source, K: Sink, L: Ledger>(
         Asked::Trial(number) => run_trial(alloc, number, out, steps),
         Asked::Calc(line) => run_calc(alloc, &line, out),
         Asked::Gtp(limits) => run_gtp(alloc, limits, shelf, lines, out, steps),
+        Asked::BoardGtp(limits) => run_board(alloc, limits, shelf, lines, out, steps),
     }
 }
 

@@ -8,7 +8,7 @@ use Rattle.whole_rules.specs.declared.money.Purses.{Purses}
 use Rattle.whole_rules.specs.declared.money.Token.{Token}
 use Rattle.whole_rules.specs.declared.states.Move.{Move}
 use Rattle.whole_rules.specs.declared.states.Move.TheVariants.{Stone, Spend, Half}
-use Rattle.whole_rules.specs.Purses.{purse, paid_in, paid_out, halved}
+use Rattle.whole_rules.specs.Purses.{purse, paid_in, paid_out, taken_out, halved}
 use Rattle.whole_rules.specs.WholeGame.{Whole, after}
 use Rattle.endgame_solver.specs.Bookkeeping.{own, gains, spends, reward, rewards, PursesFollow, AreMovesIn, RegionsFollow}
 use Rattle.std.proofs.lemmas.Bool.{cases_eq}
@@ -49,9 +49,16 @@ paid-out White White m h = omega (arith, h)
 paid-out Black White m h = omega arith
 paid-out White Black m h = omega arith
 
-pub token-out : (d : Colour) (m : Purses) → (paid_out d m).token ≡ m.token
-token-out Black m = refl
-token-out White m = refl
+-- points that are taken out of a purse leave the other purse and the token
+pub out-less : (c d : Colour) (n : ℕ) (m : Purses) → purse c (taken_out d n m) ≤ purse c m
+out-less Black Black n m = omega arith
+out-less White White n m = omega arith
+out-less Black White n m = omega arith
+out-less White Black n m = omega arith
+
+pub token-out : (d : Colour) (n : ℕ) (m : Purses) → (taken_out d n m).token ≡ m.token
+token-out Black n m = refl
+token-out White n m = refl
 
 -- a reward is for a token that was there
 pub halved-is : (c d : Colour) (black white : ℕ) (owner : Token)
@@ -102,7 +109,7 @@ purses_follow c s t (Stone p ∷ ms) (n ∷ ns) (u, (mark, (h, (k, placed, numbe
     omega (arith, next, ap (own c s.side) same, paid-in c s.side k s.purses, owner)
 purses_follow c s t (Spend ∷ ms) (n ∷ ns) (u, (some, is), takes, rest) =
     let next = from_after c s t u s.board (paid_out s.side s.purses) ms ns is (purses_follow c u t ms ns rest) in
-    let owner = ap (λ z. rewards c (other s.side) z ms) (token-out s.side s.purses) in
+    let owner = ap (λ z. rewards c (other s.side) z ms) (token-out s.side 1 s.purses) in
     omega (arith, next, ap (own c s.side) takes, own-less c s.side 0, paid-out c s.side s.purses some, owner)
 purses_follow c s t (Half ∷ ms) (n ∷ ns) (u, (owned, is), takes, rest) =
     let next = from_after c s t u s.board (halved s.side s.purses) ms ns is (purses_follow c u t ms ns rest) in

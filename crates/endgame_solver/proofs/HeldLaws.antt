@@ -19,7 +19,7 @@ use Rattle.whole_rules.specs.declared.states.Move.{Move}
 use Rattle.whole_rules.specs.declared.states.Move.TheVariants.{Stone, Spend, Half}
 use Rattle.whole_rules.specs.declared.states.MoveError.{MoveError}
 use Rattle.whole_rules.specs.PlainRecursion.{MoverWins, MoverLoses}
-use Rattle.whole_rules.specs.Purses.{purse, paid_in, paid_out, halved}
+use Rattle.whole_rules.specs.Purses.{purse, paid_in, paid_out, taken_out, halved}
 use Rattle.whole_rules.specs.Threshold.{stones}
 use Rattle.whole_rules.specs.Walls.{Plays}
 use Rattle.whole_rules.specs.WholeGame.{Whole, Applies, IsMove, IsLegal, Leads, after}
@@ -48,7 +48,7 @@ use Rattle.endgame_solver.specs.SumGame.{AreModest, balance, halves}
 use Rattle.endgame_solver.specs.inner.Held.{AreSolved, AreSolvedAt, AreSummed, HasRoom, IsAt, IsStoneEdge, ids_at, most_units, place_at, token_left}
 use Rattle.endgame_solver.specs.inner.Line.{HasFewStones}
 use Rattle.endgame_solver.specs.inner.Regions.{graph_at, spot_in, HasCells, IsShown}
-use Rattle.endgame_solver.proofs.BookkeepingLaws.{halved-is, own-less, paid-in, paid-out, token-in, token-out}
+use Rattle.endgame_solver.proofs.BookkeepingLaws.{halved-is, out-less, own-less, paid-in, paid-out, token-in, token-out}
 use Rattle.endgame_solver.proofs.WholeLaws.{IsHeld, decided_by_values, held_after, one_cells, position_in}
 
 -- The numbers are small: purses, their balance, and the values in a sum.
@@ -365,11 +365,26 @@ module _ {regions : List Region} {graphs : List Graph} {values : List (List ℕ)
   pub kept_applied : (m : Move) → ((p : ℕ) → m ≡ Stone p → ⊥) → (t : Whole) (r : Result Unit MoveError) → Applies s m t r → AreSolvedAt regions graphs values places ids Ts t
   kept_applied (Stone p) not t r a = absurd (not p refl)
   kept_applied Spend not t (Ok u) a = kept_money Spend (paid_out s.side s.purses) t a a.1
-      (λ c. omega (arith, paid-out c s.side s.purses a.0, ap token_left (token-out s.side s.purses)))
+      (λ c. omega (arith, paid-out c s.side s.purses a.0, ap token_left (token-out s.side 1 s.purses)))
   kept_applied Half not t (Ok u) a = kept_money Half (halved s.side s.purses) t a a.1
       (λ c. let w = halved-is c s.side s.purses.black s.purses.white s.purses.token in omega (arith, w.0, w.1))
   kept_applied Spend not t (Err e) a = subst (AreSolvedAt regions graphs values places ids Ts) (sym a.0) kept
   kept_applied Half not t (Err e) a = subst (AreSolvedAt regions graphs values places ids Ts) (sym a.0) kept
+
+  -- points that are taken out of a purse
+  pub kept_out : (c : Colour) (n : ℕ) → AreSolvedAt regions graphs values places ids Ts (record s { purses = taken_out c n s.purses })
+  kept_out c n = record {
+    board = kept.board;
+    solved = kept.solved;
+    at = record { many = kept.at.many; walls = kept.at.walls; contested = kept.at.contested; shown = kept.at.shown };
+    summed = kept.summed;
+    room = record {
+      ranks = kept.room.ranks;
+      many = kept.room.many;
+      each = kept.room.each;
+      room = λ d. omega (arith, kept.room.room d, out-less d c n s.purses, ap token_left (token-out c n s.purses));
+    };
+  }
 
   -- What is reported of a region.
   pub value_is : (k : ℕ) → k < length regions → IsValueId Ts (region_at regions k) (region_at regions k).cells (get_or (ids_at values k) 0 0)

@@ -4,6 +4,7 @@
 mod asked;
 mod balance;
 mod cycle_names;
+mod engine_choice;
 mod faults;
 mod known;
 mod laws;

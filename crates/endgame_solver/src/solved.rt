@@ -5,6 +5,7 @@ ghost use Rattle.go_grid.specs.Region.{Region};
 ghost use Rattle.go_grid.specs.Board.{other};
 ghost use Rattle.whole_rules.specs.declared.states.Move.TheVariants.{Stone};
 ghost use Rattle.whole_rules.specs.FirstWinningMove.{IsFirstWinning, IsLosing, IsWinner, IsWinning};
+ghost use Rattle.whole_rules.specs.Purses.{purse, taken_out};
 ghost use Rattle.whole_rules.specs.Threshold.{stones};
 ghost use Rattle.whole_rules.specs.Walls.{Plays};
 ghost use Rattle.whole_rules.specs.WholeGame.{Applies, IsLegal, IsMove};
@@ -360,6 +361,18 @@ impl Solved {
             &self.asked,
             chosen,
         )
+    }
+
+    /// Takes points out of a player's purse, which is no move: the side to move stays.
+    pub fn take_out(&mut self, colour: Colour, points: u64)
+        requires { points ≤ purse colour self.old.state.purses }
+        ensures { self.new ≡ record self.old {
+          state = record self.old.state {
+            purses = taken_out colour points self.old.state.purses;
+          };
+        } }
+    {
+        self.whole.take_out(colour, points);
     }
 
     /// Makes a move of the side to move, or leaves the game as it was where the move is illegal, as `Whole::apply` does.

@@ -36,22 +36,6 @@ impl Model for Player {
     ghost view = { λ p. seen_of p.game };
 }
 
-/// The first winning move, or the first move where no move wins.
-fn choose(solved: &mut Solved) -> Option<Move>
-    ensures choice { MatchOption result (¬ HasMove solved.old.state)
-        (λ m. Chooses solved.old.state m) }
-    ensures same { solved.new ≡ solved.old }
-{
-    let first = match solved.whole().first_move() {
-        Some(first) => first,
-        None => return None,
-    };
-    match solved.winning_move() {
-        Some(winning) => Some(winning),
-        None => Some(first),
-    }
-}
-
 /// Makes the move that was chosen.
 fn make(solved: &mut Solved, chosen: Move)
     requires { Chooses solved.old.state chosen }
@@ -101,7 +85,7 @@ impl Player {
         ensures same { self.new ≡ self.old }
     {
         match &mut self.game {
-            Game::Plain(solved) => choose(solved),
+            Game::Plain(solved) => solved.choose(),
             Game::Cycles(game) => game.choose(),
         }
     }

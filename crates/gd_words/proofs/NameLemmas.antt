@@ -3,7 +3,7 @@ use Rattle.std.proofs.Common.{◌≡◌, ℕ, List, refl, ap}
 use Rattle.std.specs.Prelude.{codes, true, false}
 use Rattle.std.specs.Str.{bytes_eq}
 use Rattle.gd_words.specs.declared.choice.Choice.{Choice}
-use Rattle.gd_words.specs.declared.choice.Choice.TheVariants.{Komi, Turn, After, BlackPrisoners, WhitePrisoners, Positions, Parts, Engine, Tax, Territory, Cycles}
+use Rattle.gd_words.specs.declared.choice.Choice.TheVariants.{Komi, Turn, After, BlackPrisoners, WhitePrisoners, Positions, Parts, Engine, Tax, Territory, Cycles, KeepBoard}
 use Rattle.gd_words.specs.Choice.{name_of}
 
 -- two words that a test tells apart are not the same
@@ -57,3 +57,7 @@ territory_only x e = absurd (apart e refl refl)
 pub cycles_only : IsOnly Cycles (codes "--cycles")
 cycles_only (Cycles v) e = (v, refl)
 cycles_only x e = absurd (apart e refl refl)
+
+pub board_only : IsOnly KeepBoard (codes "--board")
+board_only (KeepBoard v) e = (v, refl)
+board_only x e = absurd (apart e refl refl)

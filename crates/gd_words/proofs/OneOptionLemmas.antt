@@ -7,11 +7,11 @@ use Rattle.go_grid.specs.declared.grid.Colour.{Colour}
 use Rattle.go_grid.specs.declared.grid.Colour.TheVariants.{Black, White}
 use Rattle.sgf_go.proofs.KomiLemmas.{one_komi}
 use Rattle.gd_words.specs.declared.choice.Choice.{Choice}
-use Rattle.gd_words.specs.declared.choice.Choice.TheVariants.{Komi, Turn, After, BlackPrisoners, WhitePrisoners, Positions, Parts, Engine, Tax, Territory, Cycles}
+use Rattle.gd_words.specs.declared.choice.Choice.TheVariants.{Komi, Turn, After, BlackPrisoners, WhitePrisoners, Positions, Parts, Engine, Tax, Territory, Cycles, KeepBoard}
 use Rattle.gd_words.specs.Choice.{IsChoice, IsChoiceValue, name_of}
 use Rattle.gd_words.specs.Value.{IsNumberWithin, answer_word}
 use Rattle.board_words.specs.Words.{colour_word}
-use Rattle.gd_words.proofs.NameLemmas.{IsOnly, apart, komi_only, turn_only, after_only, black_only, white_only, positions_only, parts_only, engine_only, tax_only, territory_only, cycles_only}
+use Rattle.gd_words.proofs.NameLemmas.{IsOnly, apart, komi_only, turn_only, after_only, black_only, white_only, positions_only, parts_only, engine_only, tax_only, territory_only, cycles_only, board_only}
 
 pub one_number : (low high : ℕ) (word : List ℕ) (n m : ℕ) → IsNumberWithin low high word n → IsNumberWithin low high word m → n ≡ m
 one_number low high word n m a b = a.number.1 ∙ sym b.number.1
@@ -45,3 +45,4 @@ one_choice name word (Engine v) y a b = same Engine name word y v engine_only a.
 one_choice name word (Tax v) y a b = same Tax name word y v tax_only a.0 (λ w. one_answer word v w a.1) b
 one_choice name word (Territory v) y a b = same Territory name word y v territory_only a.0 (λ w. one_answer word v w a.1) b
 one_choice name word (Cycles v) y a b = same Cycles name word y v cycles_only a.0 (λ w. one_answer word v w a.1) b
+one_choice name word (KeepBoard v) y a b = same KeepBoard name word y v board_only a.0 (λ w. one_answer word v w a.1) b

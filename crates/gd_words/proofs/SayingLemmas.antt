@@ -4,12 +4,12 @@ use Rattle.std.specs.Prelude.{Option}
 use Rattle.std.specs.List.{Contains}
 use Rattle.std.proofs.lemmas.List.Elements.{Contains-get_or, Contains-append_left, Contains-push, Contains-push_cases}
 use Rattle.gd_words.specs.declared.choice.Choice.{Choice}
-use Rattle.gd_words.specs.declared.choice.Choice.TheVariants.{Komi, Turn, After, BlackPrisoners, WhitePrisoners, Positions, Parts, Engine, Tax, Territory, Cycles}
+use Rattle.gd_words.specs.declared.choice.Choice.TheVariants.{Komi, Turn, After, BlackPrisoners, WhitePrisoners, Positions, Parts, Engine, Tax, Territory, Cycles, KeepBoard}
 use Rattle.gd_words.specs.declared.chosen.Chosen.{Chosen}
 use Rattle.gd_words.specs.Choice.{name_of}
 use Rattle.gd_words.specs.Job.{GivesOption, Say}
 use Rattle.gd_words.specs.inner.Reading.{IsWith}
-use Rattle.gd_words.proofs.NameLemmas.{IsOnly, komi_only, turn_only, after_only, black_only, white_only, positions_only, parts_only, engine_only, tax_only, territory_only, cycles_only}
+use Rattle.gd_words.proofs.NameLemmas.{IsOnly, komi_only, turn_only, after_only, black_only, white_only, positions_only, parts_only, engine_only, tax_only, territory_only, cycles_only, board_only}
 
 -- no option of the list has the name
 abbrev pub IsNew : List Choice → List ℕ → Type 0
@@ -36,6 +36,7 @@ fresh xs o p (Engine v) s w = not_there Engine xs v o.engine engine_only s.engin
 fresh xs o p (Tax v) s w = not_there Tax xs v o.tax tax_only s.tax w.0
 fresh xs o p (Territory v) s w = not_there Territory xs v o.territory territory_only s.territory w.0
 fresh xs o p (Cycles v) s w = not_there Cycles xs v o.cycles cycles_only s.cycles w.0
+fresh xs o p (KeepBoard v) s w = not_there KeepBoard xs v o.keep_board board_only s.keep_board w.0
 
 there : {A : Type 0} (option : A → Choice) (xs : List Choice) (o : Option A) → GivesOption xs option o → o ≢ None → (v : A) × Contains xs (option v)
 there option xs (Some v) g n = (v, g)
@@ -53,6 +54,7 @@ given xs o (Engine v) s n = let t = there Engine xs o.engine s.engine (λ e. n (
 given xs o (Tax v) s n = let t = there Tax xs o.tax s.tax (λ e. n (record o { tax = Some v }) (e, refl)) in (Tax t.0, t.1, refl)
 given xs o (Territory v) s n = let t = there Territory xs o.territory s.territory (λ e. n (record o { territory = Some v }) (e, refl)) in (Territory t.0, t.1, refl)
 given xs o (Cycles v) s n = let t = there Cycles xs o.cycles s.cycles (λ e. n (record o { cycles = Some v }) (e, refl)) in (Cycles t.0, t.1, refl)
+given xs o (KeepBoard v) s n = let t = there KeepBoard xs o.keep_board s.keep_board (λ e. n (record o { keep_board = Some v }) (e, refl)) in (KeepBoard t.0, t.1, refl)
 
 other : {A : Type 0} (option : A → Choice) (xs : List Choice) (x : Choice) (o : Option A) → ((v : A) → option v ≢ x) → GivesOption xs option o → GivesOption (xs ++ x ∷ []) option o
 other option xs x (Some v) n g = Contains-append_left xs (x ∷ []) (option v) g
@@ -106,6 +108,10 @@ cycles_next : Next Cycles (λ o. o.cycles)
 cycles_next xs o p (Cycles v) g w = subst (λ q. GivesOption (xs ++ Cycles v ∷ []) Cycles q.cycles) (sym w.1) (Contains-push xs (Cycles v))
 cycles_next xs o p x g w = subst (λ q. GivesOption (xs ++ x ∷ []) Cycles q.cycles) (sym w.1) (other Cycles xs x o.cycles (λ v e. cc) g)
 
+board_next : Next KeepBoard (λ o. o.keep_board)
+board_next xs o p (KeepBoard v) g w = subst (λ q. GivesOption (xs ++ KeepBoard v ∷ []) KeepBoard q.keep_board) (sym w.1) (Contains-push xs (KeepBoard v))
+board_next xs o p x g w = subst (λ q. GivesOption (xs ++ x ∷ []) KeepBoard q.keep_board) (sym w.1) (other KeepBoard xs x o.keep_board (λ v e. cc) g)
+
 pub say_more : (xs : List Choice) (o p : Chosen) (x : Choice) → Say xs o → IsWith o x p → Say (xs ++ x ∷ []) p
 say_more xs o p x s w = record {
   komi = komi_next xs o p x s.komi w;
@@ -119,11 +125,12 @@ say_more xs o p x s w = record {
   tax = tax_next xs o p x s.tax w;
   territory = territory_next xs o p x s.territory w;
   cycles = cycles_next xs o p x s.cycles w;
+  keep_board = board_next xs o p x s.keep_board w;
 }
 
 -- the options that say nothing
 abbrev pub IsUnsaid : Chosen → Type 0
-IsUnsaid o = (o.komi ≡ None) × ((o.turn ≡ None) × ((o.after ≡ None) × ((o.black_prisoners ≡ None) × ((o.white_prisoners ≡ None) × ((o.positions ≡ None) × ((o.parts ≡ None) × ((o.engine ≡ None) × ((o.tax ≡ None) × ((o.territory ≡ None) × (o.cycles ≡ None))))))))))
+IsUnsaid o = (o.komi ≡ None) × ((o.turn ≡ None) × ((o.after ≡ None) × ((o.black_prisoners ≡ None) × ((o.white_prisoners ≡ None) × ((o.positions ≡ None) × ((o.parts ≡ None) × ((o.engine ≡ None) × ((o.tax ≡ None) × ((o.territory ≡ None) × ((o.cycles ≡ None) × (o.keep_board ≡ None)))))))))))
 
 nothing : {A : Type 0} (option : A → Choice) (o : Option A) → o ≡ None → GivesOption [] option o
 nothing option (Some v) e = cc
@@ -141,5 +148,6 @@ say_nothing o e = record {
   engine = nothing Engine o.engine e.1.1.1.1.1.1.1.0;
   tax = nothing Tax o.tax e.1.1.1.1.1.1.1.1.0;
   territory = nothing Territory o.territory e.1.1.1.1.1.1.1.1.1.0;
-  cycles = nothing Cycles o.cycles e.1.1.1.1.1.1.1.1.1.1;
+  cycles = nothing Cycles o.cycles e.1.1.1.1.1.1.1.1.1.1.0;
+  keep_board = nothing KeepBoard o.keep_board e.1.1.1.1.1.1.1.1.1.1.1;
 }

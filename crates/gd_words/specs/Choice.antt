@@ -5,7 +5,7 @@ use Rattle.gd_words.specs.declared.choice.TheConstants.{MOST_MOVES, MOST_PARTS}
 use Rattle.sgf_go.specs.declared.settings.TheConstants.{MOST_PRISONERS}
 use Rattle.sgf_go.specs.Komi.{IsKomi}
 use Rattle.gd_words.specs.declared.choice.Choice.{Choice}
-use Rattle.gd_words.specs.declared.choice.Choice.TheVariants.{Komi, Turn, After, BlackPrisoners, WhitePrisoners, Positions, Parts, Engine, Tax, Territory, Cycles}
+use Rattle.gd_words.specs.declared.choice.Choice.TheVariants.{Komi, Turn, After, BlackPrisoners, WhitePrisoners, Positions, Parts, Engine, Tax, Territory, Cycles, KeepBoard}
 use Rattle.gd_words.specs.Value.{IsNumberWithin, answer_word}
 use Rattle.board_words.specs.Words.{colour_word}
 
@@ -22,6 +22,7 @@ name_of (Engine colour) = codes "--as"
 name_of (Tax taxed) = codes "--tax"
 name_of (Territory declared) = codes "--territory"
 name_of (Cycles admitted) = codes "--cycles"
+name_of (KeepBoard kept) = codes "--board"
 
 -- the word gives the option its value; a komi has no white space
 abbrev pub IsChoiceValue : List ℕ → Choice → Type 0
@@ -36,6 +37,7 @@ IsChoiceValue word (Engine colour) = word ≡ colour_word colour
 IsChoiceValue word (Tax taxed) = word ≡ answer_word taxed
 IsChoiceValue word (Territory declared) = word ≡ answer_word declared
 IsChoiceValue word (Cycles admitted) = word ≡ answer_word admitted
+IsChoiceValue word (KeepBoard kept) = word ≡ answer_word kept
 
 -- an option as two words: its name and its value
 abbrev pub IsChoice : List ℕ → List ℕ → Choice → Type 0

@@ -1,12 +1,12 @@
 -- The grammar of the command line, and the job that its words say:
 --     words = ( "solve" | "safe" | "values" | "board" | "margin" | "moves" | "line" | "play" ) file { name value } | "trial" number | "calc" expression { name value } | "gtp" { name value }
-use Rattle.std.specs.Prelude.{◌≡◌, ◌≢◌, ◌∷◌, [], ⊤, ℕ, List, Bool, true, false, Option, Some, None}
+use Rattle.std.specs.Prelude.{◌≡◌, ◌≢◌, ◌⊎◌, ◌∷◌, [], ⊤, ℕ, List, Bool, true, false, Option, Some, None}
 use Rattle.std.specs.List.{All, AllPairs, Contains}
 use Rattle.std.specs.Option.{unwrap_or}
 use Rattle.go_grid.specs.declared.grid.Colour.{Colour}
 use Rattle.sgf_go.specs.declared.settings.Settings.{Settings}
 use Rattle.gd_words.specs.declared.choice.Choice.{Choice}
-use Rattle.gd_words.specs.declared.choice.Choice.TheVariants.{Komi, Turn, After, BlackPrisoners, WhitePrisoners, Positions, Parts, Engine, Tax, Territory, Cycles}
+use Rattle.gd_words.specs.declared.choice.Choice.TheVariants.{Komi, Turn, After, BlackPrisoners, WhitePrisoners, Positions, Parts, Engine, Tax, Territory, Cycles, KeepBoard}
 use Rattle.gd_words.specs.declared.chosen.Chosen.{Chosen}
 use Rattle.gd_words.specs.Choice.{IsChoice, name_of}
 use Rattle.gd_words.specs.Task.{Task, BeginWith, GoesWith, admitting}
@@ -35,6 +35,7 @@ pub record Say (choices : List Choice) (chosen : Chosen) : Type 0 where
   pub tax : GivesOption choices Tax chosen.tax
   pub territory : GivesOption choices Territory chosen.territory
   pub cycles : GivesOption choices Cycles chosen.cycles
+  pub keep_board : GivesOption choices KeepBoard chosen.keep_board
 
 -- the words are options of the task, in any order and none of them twice, and this is what they say
 pub record AreChoices (task : Task) (words : List (List ℕ)) (chosen : Chosen) : Type 0 where
@@ -48,8 +49,16 @@ pub record AreChoices (task : Task) (words : List (List ℕ)) (chosen : Chosen) 
 abbrev pub TaxTerritory : Chosen → Type 0
 TaxTerritory chosen = (chosen.tax ≡ Some true) × (chosen.territory ≡ Some true)
 
--- a job: what is asked for, of which position, within which limits, with which colour for the engine, with or without a tax, and with
--- cycles admitted or without
+-- the options admit cycles to an engine that keeps a board, which doesn't play kos
+abbrev pub KeepKos : Chosen → Type 0
+KeepKos chosen = (chosen.cycles ≡ Some true) × (chosen.keep_board ≡ Some true)
+
+-- two of the options don't go together
+abbrev pub Conflict : Chosen → Type 0
+Conflict chosen = TaxTerritory chosen ⊎ KeepKos chosen
+
+-- a job: what is asked for, of which position, within which limits, with which colour for the engine, with or without a tax, with cycles
+-- admitted or without, and whether the engine of `gtp` keeps a board
 pub record Job : Type 0 where
   pub task : Task
   pub settings : Settings
@@ -58,6 +67,7 @@ pub record Job : Type 0 where
   pub engine : Option Colour
   pub tax : Bool
   pub cycles : Bool
+  pub keep_board : Bool
 
 -- the job of a task and its options: what they leave open has its default; with cycles the task is the one that admits them
 abbrev pub job_of : Task → Chosen → Job
@@ -76,16 +86,17 @@ job_of task chosen = record {
   engine = chosen.engine;
   tax = unwrap_or chosen.tax false;
   cycles = unwrap_or chosen.cycles false;
+  keep_board = unwrap_or chosen.keep_board false;
 }
 
--- the words say the job: those of a task, and then its options, which don't tax declared points
+-- the words say the job: those of a task, and then its options, no two of which conflict
 pub record IsJob (words : List (List ℕ)) (job : Job) : Type 0 where
   pub spoken : Task
   pub rest : List (List ℕ)
   pub task : BeginWith spoken words rest
   pub chosen : Chosen
   pub options : AreChoices spoken rest chosen
-  pub untaxed : ¬ TaxTerritory chosen
+  pub agree : ¬ Conflict chosen
   pub says : job ≡ job_of spoken chosen
 
 -- the words say no job

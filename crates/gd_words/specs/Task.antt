@@ -1,7 +1,7 @@
 -- What a command line asks for: the words that it begins with, and the options that go with it.
 use Rattle.std.specs.Prelude.{◌≡◌, ◌≢◌, ◌∷◌, [], ⊤, ℕ, List, Bool, true, false, codes}
 use Rattle.gd_words.specs.declared.choice.Choice.{Choice}
-use Rattle.gd_words.specs.declared.choice.Choice.TheVariants.{Positions, Parts, Engine, Tax, Territory, Cycles}
+use Rattle.gd_words.specs.declared.choice.Choice.TheVariants.{Positions, Parts, Engine, Tax, Territory, Cycles, KeepBoard}
 use Rattle.gd_words.specs.declared.job.CycleQuestion.TheVariants as cycle
 use Rattle.gd_words.specs.declared.job.Question.{Question}
 use Rattle.gd_words.specs.declared.job.Question.TheVariants.{Board, Line, Margin, Moves, Safe, Solve, Values, WithCycles}
@@ -71,10 +71,12 @@ abbrev pub BeginWith : Task → List (List ℕ) → List (List ℕ) → Type 0
 BeginWith gtp words rest = words ≡ codes "gtp" ∷ rest
 BeginWith task words rest = (word : List ℕ) × (argument : List ℕ) × (words ≡ word ∷ argument ∷ rest) × AreFor word argument task
 
--- The option goes with the task: none with `trial`, the parts of a form with `calc`, both limits, declared points and cycles with `gtp`,
--- and each with `play`. Only `play` has a colour for the engine, and a question that needs no regions has no limits and no tax.
+-- The option goes with the task: none with `trial`, the parts of a form with `calc`, both limits, declared points, cycles and a kept board
+-- with `gtp`, and each but that with `play`. Only `play` has a colour for the engine, and a question that needs no regions has no limits and
+-- no tax.
 abbrev pub GoesWith : Task → Choice → Type 0
 GoesWith (trial n) choice = ⊥
+GoesWith (play file) (KeepBoard kept) = ⊥
 GoesWith (play file) choice = ⊤
 GoesWith (calc expression) (Parts n) = ⊤
 GoesWith (calc expression) choice = ⊥
@@ -82,10 +84,12 @@ GoesWith gtp (Positions n) = ⊤
 GoesWith gtp (Parts n) = ⊤
 GoesWith gtp (Territory declared) = ⊤
 GoesWith gtp (Cycles admitted) = ⊤
+GoesWith gtp (KeepBoard kept) = ⊤
 GoesWith gtp choice = ⊥
 GoesWith (ask question file) (Positions n) = NeedsRegions question
 GoesWith (ask question file) (Parts n) = NeedsRegions question
 GoesWith (ask question file) (Tax taxed) = NeedsRegions question
 GoesWith (ask question file) (Cycles admitted) = AdmitsCycles question
 GoesWith (ask question file) (Engine colour) = ⊥
+GoesWith (ask question file) (KeepBoard kept) = ⊥
 GoesWith (ask question file) choice = ⊤

@@ -37,4 +37,5 @@ viewed job = record {
   engine = job.engine;
   tax = job.tax;
   cycles = job.cycles;
+  keep_board = job.keep_board;
 }

@@ -33,6 +33,8 @@ pub(crate) enum Choice {
     Territory(bool),
     /// Whether regions may have cycles.
     Cycles(bool),
+    /// Whether the engine keeps a board.
+    KeepBoard(bool),
 }
 
 /// The option that a name and a value say.
@@ -52,6 +54,7 @@ pub(crate) fn read_choice(name: &str, value: &str) -> Option<Choice>
         "--tax" => read_answer(value).map(Choice::Tax),
         "--territory" => read_answer(value).map(Choice::Territory),
         "--cycles" => read_answer(value).map(Choice::Cycles),
+        "--board" => read_answer(value).map(Choice::KeepBoard),
         _ => None,
     }
 }

@@ -2,7 +2,7 @@
 
 ghost use Rattle.std.specs.Prelude.{◌≡◌, ◌↔◌, true, None, IfSome, IfNone};
 ghost use Rattle.gd_words.specs.inner.Reading.{IsWith};
-ghost use Rattle.gd_words.specs.Job.{AreChoices, TaxTerritory, job_of};
+ghost use Rattle.gd_words.specs.Job.{AreChoices, Conflict, KeepKos, TaxTerritory, job_of};
 ghost use Rattle.gd_words.specs.Viewed.{task_of, texts, viewed};
 ghost use Rattle.gd_words.specs.declared.chosen.Chosen.{Chosen};
 
@@ -31,6 +31,7 @@ pub(crate) struct Chosen {
     pub(crate) tax: Option<bool>,
     pub(crate) territory: Option<bool>,
     pub(crate) cycles: Option<bool>,
+    pub(crate) keep_board: Option<bool>,
 }
 
 impl Chosen {
@@ -55,16 +56,31 @@ impl Chosen {
                 declared,
             ),
             Choice::Cycles(admitted) if self.cycles.is_none() => self.cycles = Some(admitted),
+            Choice::KeepBoard(kept) if self.keep_board.is_none() => self.keep_board = Some(kept),
             _ => return None,
         }
         Some(self)
     }
 
     /// Whether there is a tax on groups that would have to pay out of declared points.
-    pub(crate) fn taxes_territory(&self) -> bool
+    fn taxes_territory(&self) -> bool
         ensures { (result ≡ true) ↔ TaxTerritory self.now }
     {
         matches!((self.tax, self.territory), (Some(true), Some(true)))
+    }
+
+    /// Whether cycles are admitted to an engine that keeps a board.
+    fn keeps_kos(&self) -> bool
+        ensures { (result ≡ true) ↔ KeepKos self.now }
+    {
+        matches!((self.cycles, self.keep_board), (Some(true), Some(true)))
+    }
+
+    /// Whether two of the options don't go together.
+    pub(crate) fn conflicts(&self) -> bool
+        ensures { (result ≡ true) ↔ Conflict self.now }
+    {
+        self.taxes_territory() || self.keeps_kos()
     }
 
     /// The job of a command with these options. What they leave open has its default.
@@ -87,6 +103,7 @@ impl Chosen {
             engine: self.engine,
             tax: self.tax.unwrap_or(false),
             cycles,
+            keep_board: self.keep_board.unwrap_or(false),
         }
     }
 }

@@ -78,6 +78,8 @@ pub struct Job<'a> {
     pub tax: bool,
     /// Whether regions may have cycles.
     pub cycles: bool,
+    /// Whether the engine keeps a board.
+    pub keep_board: bool,
 }
 
 /// The command that two words ask for.
@@ -126,8 +128,13 @@ impl Command<'_> {
             | Command::Values(_)
             | Command::Margin(_)
             | Command::Moves(_)
-            | Command::WithCycles(_, _) => !matches!(choice, Choice::Engine(_)),
-            Command::Line(_) => !matches!(choice, Choice::Engine(_) | Choice::Cycles(_)),
+            | Command::WithCycles(_, _) => {
+                !matches!(choice, Choice::Engine(_) | Choice::KeepBoard(_))
+            }
+            Command::Line(_) => !matches!(
+                choice,
+                Choice::Engine(_) | Choice::Cycles(_) | Choice::KeepBoard(_)
+            ),
             Command::Safe(_) | Command::Board(_) => !matches!(
                 choice,
                 Choice::Engine(_)
@@ -135,13 +142,18 @@ impl Command<'_> {
                     | Choice::Parts(_)
                     | Choice::Tax(_)
                     | Choice::Cycles(_)
+                    | Choice::KeepBoard(_)
             ),
-            Command::Play(_) => true,
+            Command::Play(_) => !matches!(choice, Choice::KeepBoard(_)),
             Command::Trial(_) => false,
             Command::Calc(_) => matches!(choice, Choice::Parts(_)),
             Command::Gtp => matches!(
                 choice,
-                Choice::Positions(_) | Choice::Parts(_) | Choice::Territory(_) | Choice::Cycles(_)
+                Choice::Positions(_)
+                    | Choice::Parts(_)
+                    | Choice::Territory(_)
+                    | Choice::Cycles(_)
+                    | Choice::KeepBoard(_)
             ),
         }
     }

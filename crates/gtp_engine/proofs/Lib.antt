@@ -1,12 +1,8 @@
 pub mod NameLemmas
 pub mod MoveLemmas
 pub mod KeptLemmas
-pub mod FileLemmas
 pub mod OrderLemmas
 pub mod AnswerLemmas
-pub mod FailedLoadLemmas
-pub mod TakenLineLemmas
-pub mod SessionLemmas
 pub mod WinLemmas
 pub mod KomiLemmas
 pub mod RoomLemmas

@@ -18,8 +18,10 @@ use Rattle.gtp_engine.specs.Moves.{move_for}
 use Rattle.gtp_engine.specs.Request.{Asked, Order}
 use Rattle.gtp_engine.specs.Request.Order.{protocol_version, name, version, known_command, list_commands, boardsize, clear_board, komi, play, genmove, loadsgf, quit}
 use Rattle.gtp_engine.specs.Request.Asked.{something, unknown, misfit}
-use Rattle.gtp_engine.specs.Session.{AnswersLine, AnswersWords, Does, Fate, Generates, Meets, Obeys, PlaysMove, PlaysWanted, Said, Table, TakesTurn, made, no_load, failed}
-use Rattle.gtp_engine.specs.Written.{Engine, IsReply, unused}
+use Rattle.gtp_engine.specs.Session.{AnswersWords, Generates, Meets, Obeys, PlaysMove, PlaysWanted, Said, Table, TakesTurn}
+use Rattle.gtp_words.specs.Loads.{Fate}
+use Rattle.gtp_words.specs.Loads.Fate.{made, no_load, failed}
+use Rattle.gtp_engine.specs.Written.{Engine, IsEngineReply, unused}
 
 less_room : (game : Option EngineGame) (n m : ℕ) → n ≤ m → IfSome game (CanTake m) → IfSome game (CanTake n)
 less_room None n m le room = tt
@@ -102,6 +104,7 @@ module _ (limits : EngineLimits) where
   words files (word ∷ more) fate t u reply last (id, rest, asked, said, has, asks, met, is, end) = meets files asked fate t u said met
 
 -- the reply to a line leaves room
-pub reply_room : (files : Option Files) (before now : ℕ) (line reply : List ℕ) (a b : Engine) (last : Bool) → IsReply files before now line a reply b last
+pub reply_room : (files : Option Files) (before now : ℕ) (line reply : List ℕ) (a b : Engine) (last : Bool) → IsEngineReply files before now line a reply b last
     → LeavesRoom a.table b.table
-reply_room files before now line reply a b last (fate, (ws, are, answered), noted, same) = words a.limits files ws fate a.table b.table reply last answered
+reply_room files before now line reply a b last (replied, same) =
+    let (ws, are, answered) = replied.answered in words a.limits files ws replied.fate a.table b.table reply last answered

@@ -1,14 +1,8 @@
 -- What an engine keeps.
-use Rattle.std.specs.Prelude.{◌<◌, ◌+◌, ℕ, List, Contains, IfSome}
-use Rattle.std.specs.List.Sorted.{IsStrictlyIncreasing}
+use Rattle.std.specs.Prelude.{◌<◌, ◌+◌, ℕ, IfSome}
 use Rattle.desk_io.specs.declared.lines.TheConstants.{MOST_LINES}
 use Rattle.engine_player.specs.Room.{CanTake}
 use Rattle.gtp_engine.specs.Session.{Table}
-
--- the numbers of loads that failed are ascending, and below the number of loads so far
-pub record AreLoads (loads : ℕ) (failed : List ℕ) : Type 0 where
-  pub ascending : IsStrictlyIncreasing failed
-  pub below : (n : ℕ) → Contains failed n → n < loads
 
 -- the game that runs, if one does, can take so many more moves
 abbrev pub HasRoomFor : ℕ → Table → Type 0

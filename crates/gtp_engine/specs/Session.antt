@@ -28,6 +28,10 @@ use Rattle.gtp_words.specs.declared.end.GtpEnd.TheVariants.{Quit, InputEnded, To
 use Rattle.gtp_engine.specs.declared.reply.Refusal.{Refusal}
 use Rattle.gtp_engine.specs.declared.reply.Refusal.TheVariants.{UnknownCommand, SyntaxError, UnacceptableSize, GameHasBegun, CannotSolve, NotInTurn, IllegalMove, CannotLoadFile}
 use Rattle.gtp_words.specs.Replies.{signed_text}
+use Rattle.gtp_words.specs.Files.{GivesNone, GivesSetup, load_settings}
+use Rattle.gtp_words.specs.Loads.{Fate}
+use Rattle.gtp_words.specs.Loads.Fate.{no_load, made, failed}
+use Rattle.gtp_words.specs.Sessions.{Answers}
 use Rattle.gtp_words.specs.Words.{AreWords, HasId, cleaned}
 use Rattle.gtp_engine.specs.Moves.{move_for, move_text}
 use Rattle.gtp_engine.specs.Request.{Order, Asked, Asks, command_word}
@@ -132,26 +136,6 @@ TakesTurn limits c Act t said u =
     ⊎ (((p q : EngineGame) × (t.game ≡ Some p) × (p.state.side ≡ c) × Act p said q × (u ≡ record t { game = Some q }))
     ⊎ ((p : EngineGame) × (t.game ≡ Some p) × (p.state.side ≢ c) × RefusesWith NotInTurn t said u)))
 
--- what becomes of the load of a line: it has none, or it is made, or it fails
-pub data Fate : Type 0 where
-  no_load : Fate
-  made : Fate
-  failed : Fate
-
--- the settings of a load: whether the points that the file marks are declared, and how many moves are replayed
-abbrev pub load_settings : Bool → Option ℕ → Settings
-load_settings territory after = record { after = after; komi = None; turn = None; black_prisoners = 0; white_prisoners = 0; territory = territory }
-
--- the file of which this is told is not too long, and gives the position
-abbrev pub GivesSetup : Told → Settings → Setup → Type 0
-GivesSetup told settings setup = (file : List ℕ) × IsTold told file × HasFewBytes file × Reads file settings (Ok setup)
-
--- the shelf doesn't hold the file, or it is too long, or it gives no position
-abbrev pub GivesNone : Told → Settings → Type 0
-GivesNone told settings = (told ≡ absent)
-    ⊎ (IsLonger MOST_BYTES told
-    ⊎ ((file : List ℕ) × (fault : FileFault) × IsTold told file × HasFewBytes file × Reads file settings (Err fault)))
-
 -- a file of the shelf is loaded by the settings; a name that isn't UTF-8 isn't asked for
 abbrev pub LoadsFile : Settings → Option Files → List ℕ → Fate → Table → Said → Table → Type 0
 LoadsFile settings files file no_load t said u = (¬ IsUtf8 file) × RefusesWith CannotLoadFile t said u
@@ -198,65 +182,9 @@ AnswersWords limits files (word ∷ words) fate t reply u last = (id : List ℕ)
     × HasId (word ∷ words) id rest × Asks rest asked × Meets limits files asked fate t said u × (reply ≡ reply_text id said) × (last ≡ is_last asked)
 
 -- a line is answered by its words
-abbrev pub AnswersLine : EngineLimits → Option Files → List ℕ → Fate → Table → List ℕ → Table → Bool → Type 0
+abbrev pub AnswersLine : EngineLimits → Option Files → Answers Table
 AnswersLine limits files line fate t reply u last = (words : List (List ℕ)) × AreWords (cleaned line) words × AnswersWords limits files words fate t reply u last
 
--- loads are numbered from 0, and those of the list fail
-abbrev pub IsLoadNumbered : List ℕ → Fate → ℕ → ℕ → Type 0
-IsLoadNumbered failing no_load n next = next ≡ n
-IsLoadNumbered failing made n next = (next ≡ n + 1) × ¬ Contains failing n
-IsLoadNumbered failing failed n next = (next ≡ n + 1) × Contains failing n
-
--- where a session stands: its table, how many loads there were, how many lines were read, and the bytes that are left
-pub record GtpStanding : Type 0 where
-  pub table : Table
-  pub loads : ℕ
-  pub read : ℕ
-  pub left : List ℕ
-
--- one line is read and answered
-pub record TakesLine (limits : EngineLimits) (files : Option Files) (failing : List ℕ) (a : GtpStanding) (text : List ℕ) (b : GtpStanding) (last : Bool) : Type 0 where
-  pub few : a.read < MOST_LINES
-  pub some : a.left ≢ []
-  pub line : List ℕ
-  pub fate : Fate
-  pub taken : IsLine 1024 a.left line b.left
-  pub answered : AnswersLine limits files line fate a.table text b.table last
-  pub counted : b.read ≡ a.read + 1
-  pub numbered : IsLoadNumbered failing fate a.loads b.loads
-
--- the session ends here: with a line that says so, or where no line is left or may be read
-abbrev pub EndsGtpSession : EngineLimits → Option Files → List ℕ → GtpStanding → List ℕ → GtpStanding → GtpEnd → Type 0
-EndsGtpSession limits files failing a text b Quit = TakesLine limits files failing a text b true
-EndsGtpSession limits files failing a text b InputEnded = (a.read < MOST_LINES) × (a.left ≡ []) × (text ≡ []) × (b ≡ a)
-EndsGtpSession limits files failing a text b TooManyLines = (a.read ≡ MOST_LINES) × (text ≡ []) × (b ≡ a)
-EndsGtpSession limits files failing a text b end = ⊥
-
--- so many lines, one after the other, and their replies
-abbrev pub TakesLines : EngineLimits → Option Files → List ℕ → ℕ → GtpStanding → List ℕ → GtpStanding → Type 0
-TakesLines limits files failing zero a text b = (text ≡ []) × (b ≡ a)
-TakesLines limits files failing (suc n) a text c = (b : GtpStanding) × ((first then : List ℕ) × TakesLines limits files failing n a first b
-    × TakesLine limits files failing b then c false × (text ≡ first ++ then))
-
--- a whole session: lines, and then its end
-pub record IsGtpSession (limits : EngineLimits) (files : Option Files) (failing : List ℕ) (a : GtpStanding) (text : List ℕ) (c : GtpStanding) (end : GtpEnd) : Type 0 where
-  pub number : ℕ
-  pub before_end : GtpStanding
-  pub first : List ℕ
-  pub then : List ℕ
-  pub turns : TakesLines limits files failing number a first before_end
-  pub ends : EndsGtpSession limits files failing before_end then c end
-  pub whole : text ≡ first ++ then
-
--- the replies to all lines up to one that is still to be answered
-abbrev pub WaitsToReply : EngineLimits → Option Files → List ℕ → GtpStanding → List ℕ → GtpStanding → Type 0
-WaitsToReply limits files failing a text b = (n : ℕ) × TakesLines limits files failing n a text b × (b.read < MOST_LINES)
-
--- the replies to some lines, and a front part of the next reply
-abbrev pub BreaksOffReply : EngineLimits → Option Files → List ℕ → GtpStanding → List ℕ → Type 0
-BreaksOffReply limits files failing a text = (n : ℕ) × (b c : GtpStanding) × (first then more : List ℕ) × (last : Bool) × TakesLines limits files failing n a first b
-    × TakesLine limits files failing b (then ++ more) c last × (text ≡ first ++ then)
-
--- where a session begins: an empty board of 19 by 19 without a komi, Black to move, and nothing was loaded or read
-abbrev pub beginning : List ℕ → GtpStanding
-beginning bytes = record { table = fresh 19 19 (pos 0); loads = 0; read = 0; left = bytes }
+-- where a session begins: an empty board of 19 by 19 without a komi, and Black to move
+abbrev pub first_table : Table
+first_table = fresh 19 19 (pos 0)

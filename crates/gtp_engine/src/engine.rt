@@ -4,21 +4,19 @@ ghost use Rattle.std.specs.Prelude.{◌≡◌, ◌≤◌, ◌<◌, ◌+◌, List
 ghost use Rattle.endgame_solver.specs.Faults.{most_steps};
 ghost use Rattle.go_grid.specs.Region.{Region};
 ghost use Rattle.region_cut.specs.Cut.{AreRegionsOfPlay};
-ghost use Rattle.gtp_engine.specs.inner.Loading.{CanKeep};
 ghost use Rattle.sgf_go.specs.Komi.{IsInRange};
 ghost use Rattle.sgf_go.specs.Position.{IsFit};
-ghost use Rattle.gtp_engine.specs.inner.Doing.{AsksInRange, HasKomiInRange, IsDone, IsFresh, IsLoadNoted, IsRunning, IsTurnTaken};
+ghost use Rattle.gtp_engine.specs.inner.Doing.{AsksInRange, CanKeep, HasKomiInRange, IsDone, IsFresh, IsLoadNoted, IsRunning, IsTurnTaken};
 ghost use Rattle.gtp_engine.specs.inner.Viewed.{asked_of, order_of};
-ghost use Rattle.gtp_engine.specs.Kept.{AreLoads, HasRoomFor, LeavesRoom};
+ghost use Rattle.gtp_engine.specs.Kept.{HasRoomFor, LeavesRoom};
 ghost use Rattle.gtp_engine.specs.Request.Asked.{something};
 ghost use Rattle.gtp_engine.specs.Request.Order.{boardsize, komi, loadsgf};
 ghost use Rattle.gtp_engine.specs.Session.{SaysWhetherKnown, done, fresh, game_limits, is_last, reply_text};
-ghost use Rattle.gtp_engine.specs.Written.{IsReply, unused};
+ghost use Rattle.gtp_engine.specs.Written.{IsEngineReply, unused};
 ghost use Rattle.gtp_engine.specs.inner.Written.{IsMet, IsObeyed};
 
 use crate::command::read_command;
 use crate::limits::EngineLimits;
-use crate::loading::{Loading, load};
 use crate::playing::Action;
 use crate::reply::{Refusal, accept, refuse};
 use crate::request::{Asked, Request, read_asked};
@@ -27,7 +25,7 @@ use desk_io::Shelf;
 use engine_player::Player;
 use game_text::Text;
 use go_grid::Size;
-use gtp_words::{clean, split, take_id};
+use gtp_words::{Loading, Loads, MOST_LOADS, clean, load, split, take_id};
 use local_graph::MOST_POSITIONS;
 use local_play::Steps;
 use sgf_go::Setup;
@@ -49,12 +47,10 @@ pub struct Engine {
     pub(crate) limits: EngineLimits,
     pub(crate) setup: Setup,
     pub(crate) game: Option<Player>,
-    loads: u32,
-    failed: Vec<u32>,
+    loads: Loads,
 }
 
 impl Model for Engine {
-    ghost use Rattle.std.specs.Prelude.{◌≡◌, ◌≤◌, ◌<◌, ℕ, List};
     ghost use Rattle.gtp_engine.specs.Written.{Engine};
     ghost use Rattle.gtp_engine.specs.inner.Kept.{IsFitEngine};
 
@@ -64,14 +60,10 @@ impl Model for Engine {
       limits = e.limits;
       table = record { setup = e.setup; game = e.game };
       loads = e.loads;
-      failed_loads = e.failed.items;
     } };
 
-    ghost invariant = { λ e. IsFitEngine e.limits e.setup e.loads e.failed.items };
+    ghost invariant = { λ e. IsFitEngine e.limits e.setup };
 }
-
-/// More loads than a session can have.
-pub(crate) const MOST_LOADS: u32 = 1_000_000;
 
 /// The names of all commands, one a line.
 const ALL_COMMANDS: &[u8] =
@@ -108,24 +100,15 @@ impl Engine {
             limits,
             setup: fresh(alloc, size, 0)?,
             game: None,
-            loads: 0,
-            failed: Vec::new(alloc),
+            loads: Loads::new(alloc),
         })
     }
 
-    /// How many loads there were.
-    pub fn loads(&self) -> u32
-        ensures { result ≡ self.now.loads }
+    /// The loads so far.
+    pub fn loads(&self) -> &Loads
+        ensures { result.now ≡ self.now.loads }
     {
-        self.loads
-    }
-
-    /// The numbers of the loads that failed, counted from 0, in ascending order.
-    pub fn failed_loads(&self) -> &[u32]
-        ensures value { result.now ≡ self.now.failed_loads }
-        ensures numbered { AreLoads self.now.loads self.now.failed_loads }
-    {
-        &self.failed
+        &self.loads
     }
 
     /// Puts a setup and a game in the place of those that stood there.
@@ -203,7 +186,7 @@ impl Engine {
 
     /// Notes what a load comes to.
     fn note(&mut self, id: &[u8], loading: Loading) -> Result<Text, AllocError>
-        requires few { self.old.loads < MOST_LOADS }
+        requires few { self.old.loads.count < MOST_LOADS }
         requires fit { CanKeep loading }
         ensures noted { IfOk result (λ reply. IsLoadNoted id.now loading self.old reply self.new) }
         ensures same { OnErr result (self.new ≡ self.old) }
@@ -214,16 +197,15 @@ impl Engine {
             Loading::Position(setup) => {
                 let reply = accept(alloc, id, b"")?;
                 self.put(setup, None);
-                self.loads += 1;
+                self.loads.note_made();
                 Ok(reply)
             }
             Loading::Nothing => {
-                self.loads += 1;
+                self.loads.note_made();
                 Ok(refused)
             }
             Loading::Failed => {
-                self.failed.push(self.loads)?;
-                self.loads += 1;
+                self.loads.note_failed()?;
                 Ok(refused)
             }
         }
@@ -237,7 +219,7 @@ impl Engine {
         after: Option<u32>,
         shelf: &mut H,
     ) -> Result<Text, AllocError>
-        requires few { self.old.loads < MOST_LOADS }
+        requires few { self.old.loads.count < MOST_LOADS }
         ensures loaded { IfOk result (λ reply. IsObeyed (H.files shelf.old) (H.faults shelf.old)
             (H.faults shelf.new) id.now (loadsgf file.now after) self.old reply self.new) }
         ensures same { OnErr result (self.new ≡ self.old) }
@@ -261,7 +243,7 @@ impl Engine {
         shelf: &mut H,
         steps: &mut Steps<L>,
     ) -> Result<Text, AllocError>
-        requires few { self.old.loads < MOST_LOADS }
+        requires few { self.old.loads.count < MOST_LOADS }
         requires room { HasRoomFor 1 self.old.table }
         requires komi { HasKomiInRange (order_of request) }
         ensures obeyed { IfOk result (λ reply. IsObeyed (H.files shelf.old) (H.faults shelf.old)
@@ -303,7 +285,7 @@ impl Engine {
         shelf: &mut H,
         steps: &mut Steps<L>,
     ) -> Result<Answer, AllocError>
-        requires few { self.old.loads < MOST_LOADS }
+        requires few { self.old.loads.count < MOST_LOADS }
         requires room { HasRoomFor 1 self.old.table }
         requires komi { AsksInRange (asked_of asked) }
         ensures met { IfOk result (λ answer. IsMet (H.files shelf.old) (H.faults shelf.old)
@@ -342,9 +324,9 @@ impl Engine {
         shelf: &mut H,
         steps: &mut Steps<L>,
     ) -> Result<Answer, AllocError>
-        requires few { self.old.loads < MOST_LOADS }
+        requires few { self.old.loads.count < MOST_LOADS }
         requires room { HasRoomFor 1 self.old.table }
-        ensures answered { IfOk result (λ answer. IsReply (H.files shelf.old)
+        ensures answered { IfOk result (λ answer. IsEngineReply (H.files shelf.old)
             (H.faults shelf.old)
             (H.faults shelf.new) line.now self.old answer.reply self.new answer.quit) }
         ensures room { LeavesRoom self.old.table self.new.table }

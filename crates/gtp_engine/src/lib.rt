@@ -5,7 +5,6 @@ mod command;
 mod engine;
 mod laws;
 mod limits;
-mod loading;
 mod moves;
 mod playing;
 mod reply;

@@ -4,13 +4,16 @@ ghost use Rattle.std.specs.Prelude.{◌≡◌, ◌≤◌, ◌<◌, ◌++◌, Lis
 ghost use Rattle.desk_io.specs.Lines.{UsesLines};
 ghost use Rattle.desk_io.specs.Outside.{Appends, HasCause, Rose};
 ghost use Rattle.gtp_words.specs.declared.end.GtpEnd.TheVariants.{ReadFault, WriteFault};
-ghost use Rattle.gtp_engine.specs.inner.Taking.{IsSomeNoted, LineTaken};
+ghost use Rattle.gtp_words.specs.Loads.{RoseBy};
+ghost use Rattle.gtp_words.specs.Sessions.{WritesByEnd};
+ghost use Rattle.gtp_words.specs.inner.Taking.{IsSomeNoted, LineTaken};
 ghost use Rattle.gtp_engine.specs.Kept.{HasRoomFor, LeavesRoom};
-ghost use Rattle.gtp_engine.specs.Written.{WritesByEnd, RoseBy, unused};
+ghost use Rattle.gtp_engine.specs.Session.{AnswersLine, Table, first_table};
+ghost use Rattle.gtp_engine.specs.Written.{loaded, unused};
 
-use crate::engine::{Engine, MOST_LOADS};
+use crate::engine::Engine;
 use desk_io::{Failed, LineReader, MOST_LINES, Shelf, Sink, Source};
-use gtp_words::GtpEnd;
+use gtp_words::{GtpEnd, MOST_LOADS};
 use local_play::Steps;
 use std::sync::ledger::Ledger;
 
@@ -38,14 +41,16 @@ impl Engine {
         out: &mut K,
         steps: &mut Steps<L>,
     ) -> Option<GtpEnd>
-        requires few { self.old.loads < MOST_LOADS }
+        requires few { self.old.loads.count < MOST_LOADS }
         requires room { HasRoomFor 1 self.old.table }
         ensures room { LeavesRoom self.old.table self.new.table }
         ensures taken { (bytes : List ℕ) → S.left lines.old ≡ Some bytes → (rest : List ℕ)
-            × (S.left lines.new ≡ Some rest) × LineTaken (H.files shelf.old) (H.faults shelf.old)
-            (H.faults shelf.new) self.old (reader.old ++ bytes) (K.holds out.old)
-            (K.holds out.new) result self.new (reader.new ++ rest) }
-        ensures noted { IsSomeNoted (H.faults shelf.old) (H.faults shelf.new) self.old self.new }
+            × (S.left lines.new ≡ Some rest)
+            × LineTaken Table (AnswersLine self.old.limits (H.files shelf.old))
+            (H.faults shelf.old) (H.faults shelf.new) (loaded self.old) (reader.old ++ bytes)
+            (K.holds out.old) (K.holds out.new) result (loaded self.new) (reader.new ++ rest) }
+        ensures noted { IsSomeNoted (H.faults shelf.old) (H.faults shelf.new)
+            self.old.loads self.new.loads }
         ensures limits { self.new.limits ≡ self.old.limits }
         ensures read_fault { result ≡ Some ReadFault
             → Rose (S.faults lines.old) (S.faults lines.new) }
@@ -88,9 +93,9 @@ impl Engine {
     ) -> GtpEnd
         requires first { self.old ≡ unused self.old.limits }
         ensures text { (bytes : List ℕ) → S.left lines.old ≡ Some bytes
-            → WritesByEnd self.old.limits (H.files shelf.old) self.new.failed_loads bytes
-            (K.holds out.old) (K.holds out.new) result }
-        ensures counted { RoseBy (length self.new.failed_loads) (H.faults shelf.old)
+            → WritesByEnd Table (AnswersLine self.old.limits (H.files shelf.old))
+            self.new.loads.failures first_table bytes (K.holds out.old) (K.holds out.new) result }
+        ensures counted { RoseBy (length self.new.loads.failures) (H.faults shelf.old)
             (H.faults shelf.new) }
         ensures read_fault { result ≡ ReadFault → Rose (S.faults lines.old) (S.faults lines.new) }
         ensures write_fault { result ≡ WriteFault → Rose (K.faults out.old) (K.faults out.new) }

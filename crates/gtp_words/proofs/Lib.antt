@@ -1,4 +1,7 @@
 pub mod CleanLineLemmas
 pub mod WordLemmas
+pub mod FileLemmas
+pub mod LoadLemmas
+pub mod FailedLoadLemmas
 pub mod TakenLineLemmas
 pub mod SessionLemmas

@@ -5,7 +5,7 @@ use Rattle.desk_io.specs.Lines.{IsFound, IsLine, IsSameInput}
 use Rattle.desk_io.specs.declared.lines.FoundLine.{FoundLine}
 use Rattle.gtp_words.specs.declared.end.GtpEnd.{GtpEnd}
 use Rattle.gtp_words.specs.declared.end.GtpEnd.TheVariants.{Quit, ReadFault, WriteFault}
-use Rattle.gtp_words.specs.Sessions.{Answers}
+use Rattle.gtp_words.specs.Sessions.{Answers, IsReply, Loaded}
 use Rattle.gtp_words.specs.inner.Taking.{LineTaken, Replies}
 
 pub append_none : (told : Option (List ℕ)) → told ≡ append_known told []
@@ -17,18 +17,18 @@ append_twice None a b = refl
 append_twice (Some xs) a b = ap Some (append_assoc xs a b)
 
 -- what one line leaves, whatever the source has left
-abbrev pub Taken : (A : Type 0) → Answers A → A → List ℕ → Option (List ℕ) → Option (List ℕ) → Option (List ℕ) → Option GtpEnd → A → List ℕ → Option (List ℕ) → Type 0
-Taken A Reply a held left holds holds' result b held' left' = (bytes : List ℕ) → left ≡ Some bytes
-    → (rest : List ℕ) × (left' ≡ Some rest) × LineTaken A Reply a (held ++ bytes) holds holds' result b (held' ++ rest)
+abbrev pub Taken : (A : Type 0) → Answers A → ℕ → ℕ → Loaded A → List ℕ → Option (List ℕ) → Option (List ℕ) → Option (List ℕ) → Option GtpEnd → Loaded A → List ℕ → Option (List ℕ) → Type 0
+Taken A Reply before now a held left holds holds' result b held' left' = (bytes : List ℕ) → left ≡ Some bytes
+    → (rest : List ℕ) × (left' ≡ Some rest) × LineTaken A Reply before now a (held ++ bytes) holds holds' result b (held' ++ rest)
 
-module _ (A : Type 0) (Reply : Answers A) (a : A) (start held : List ℕ) (left left' holds : Option (List ℕ)) (same : IsSameInput start left held left') where
+module _ (A : Type 0) (Reply : Answers A) (before now : ℕ) (a : Loaded A) (start held : List ℕ) (left left' holds : Option (List ℕ)) (same : IsSameInput start left held left') where
   -- a read failed
-  pub taken_unread : Taken A Reply a start left holds holds (Some ReadFault) a held left'
+  pub taken_unread : Taken A Reply before now a start left holds holds (Some ReadFault) a held left'
   taken_unread = λ bytes e. let r = same bytes e in (r.0, r.1, (refl, refl))
 
-  module _ (f : FoundLine) (found : IsFound 1024 held left' (Some f)) (b : A) (line used : List ℕ) (is : line ≡ take f.line held) (behind : used ≡ drop f.taken held) where
-    replies : (text : List ℕ) (last : Bool) → Reply line a text b last → (bytes : List ℕ) → left ≡ Some bytes
-        → (rest : List ℕ) × (left' ≡ Some rest) × Replies A Reply a (start ++ bytes) text b (used ++ rest) last
+  module _ (f : FoundLine) (found : IsFound 1024 held left' (Some f)) (b : Loaded A) (line used : List ℕ) (is : line ≡ take f.line held) (behind : used ≡ drop f.taken held) where
+    replies : (text : List ℕ) (last : Bool) → IsReply A Reply before now line a text b last → (bytes : List ℕ) → left ≡ Some bytes
+        → (rest : List ℕ) × (left' ≡ Some rest) × Replies A Reply before now a (start ++ bytes) text b (used ++ rest) last
     replies text last answered bytes e =
         let r = same bytes e in (
           r.0,
@@ -43,21 +43,21 @@ module _ (A : Type 0) (Reply : Answers A) (a : A) (start held : List ℕ) (left 
         )
 
     -- the line was answered, and the session goes on
-    pub taken_on : (text : List ℕ) (last : Bool) (holds' : Option (List ℕ)) → Reply line a text b last → last ≡ false → holds' ≡ append_known holds text
-        → Taken A Reply a start left holds holds' None b used left'
+    pub taken_on : (text : List ℕ) (last : Bool) (holds' : Option (List ℕ)) → IsReply A Reply before now line a text b last → last ≡ false → holds' ≡ append_known holds text
+        → Taken A Reply before now a start left holds holds' None b used left'
     taken_on text last holds' answered on written = λ bytes e.
-        let r = replies text false (subst (Reply line a text b) on answered) bytes e in (r.0, r.1, (text, r.2, written))
+        let r = replies text false (subst (IsReply A Reply before now line a text b) on answered) bytes e in (r.0, r.1, (text, r.2, written))
 
     -- the line was answered, and the session ends with it
-    pub taken_last : (text : List ℕ) (last : Bool) (holds' : Option (List ℕ)) → Reply line a text b last → last ≡ true → holds' ≡ append_known holds text
-        → Taken A Reply a start left holds holds' (Some Quit) b used left'
+    pub taken_last : (text : List ℕ) (last : Bool) (holds' : Option (List ℕ)) → IsReply A Reply before now line a text b last → last ≡ true → holds' ≡ append_known holds text
+        → Taken A Reply before now a start left holds holds' (Some Quit) b used left'
     taken_last text last holds' answered end written = λ bytes e.
-        let r = replies text true (subst (Reply line a text b) end answered) bytes e in (r.0, r.1, (text, r.2, written))
+        let r = replies text true (subst (IsReply A Reply before now line a text b) end answered) bytes e in (r.0, r.1, (text, r.2, written))
 
     -- a front part of the reply was written
-    pub taken_cut : (text : List ℕ) (last : Bool) (holds' : Option (List ℕ)) → Reply line a text b last → (n : ℕ) × (n ≤ length text) × (holds' ≡ append_known holds (take n text))
-        → Taken A Reply a start left holds holds' (Some WriteFault) b used left'
+    pub taken_cut : (text : List ℕ) (last : Bool) (holds' : Option (List ℕ)) → IsReply A Reply before now line a text b last → (n : ℕ) × (n ≤ length text) × (holds' ≡ append_known holds (take n text))
+        → Taken A Reply before now a start left holds holds' (Some WriteFault) b used left'
     taken_cut text last holds' answered written = λ bytes e.
         let whole = sym (take-append-drop written.0 text) in
-        let r = replies (take written.0 text ++ drop written.0 text) last (subst (λ t. Reply line a t b last) whole answered) bytes e in
+        let r = replies (take written.0 text ++ drop written.0 text) last (subst (λ t. IsReply A Reply before now line a t b last) whole answered) bytes e in
         (r.0, r.1, (take written.0 text, drop written.0 text, last, r.2, written.2))

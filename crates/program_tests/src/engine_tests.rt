@@ -51,8 +51,8 @@ fn counted<L: Ledger>(
 {
     let mut engine = Engine::new(alloc, LIMITS)?;
     let end = engine.run(shelf, lines, out, &mut Steps::<L>::new(blank));
-    let failed = engine.failed_loads().to_vec(alloc)?;
-    Ok((end, engine.loads(), failed))
+    let failed = engine.loads().failures().to_vec(alloc)?;
+    Ok((end, engine.loads().count(), failed))
 }
 
 /// Which calls fail, counted from 0; there is no call of the last number.

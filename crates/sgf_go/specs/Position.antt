@@ -9,3 +9,8 @@ pub record IsFit (setup : Setup) : Type 0 where
   pub black : setup.black_prisoners < 2 ^ 40
   pub white : setup.white_prisoners < 2 ^ 40
   pub komi : unsigned_abs setup.komi_halves ≤ 2000000
+
+-- each side has fewer than 2 ^ 39 prisoners, which leaves room for those of many moves
+pub record HasFewPrisoners (setup : Setup) : Type 0 where
+  pub black : setup.black_prisoners < 2 ^ 39
+  pub white : setup.white_prisoners < 2 ^ 39

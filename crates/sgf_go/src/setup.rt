@@ -7,7 +7,7 @@ ghost use Rattle.std.specs.Option.{option_map};
 ghost use Rattle.sgf_tree.specs.Reading.{property_text, node_text, line_text};
 ghost use Rattle.sgf_go.specs.Reading.{extent};
 ghost use Rattle.sgf_go.specs.Komi.{IsInRange};
-ghost use Rattle.sgf_go.specs.Position.{IsFit};
+ghost use Rattle.sgf_go.specs.Position.{HasFewPrisoners, IsFit};
 ghost use Rattle.sgf_go.specs.Values.{colon, Says, IsSide, IsSize};
 ghost use Rattle.sgf_go.specs.inner.Values.{LacksColon};
 ghost use Rattle.sgf_go.specs.Setup.{Counts, AnswersPosition, OnePosition, value_of, is_go, IsBoardSize, IsKomiFor, root, empty_board};
@@ -127,6 +127,7 @@ fn finish(replay: Replay, settings: &Settings, komi: i64) -> Result<Setup, GoErr
     requires closed { IsClosedOff replay.board }
     ensures answer { AnswersEnd settings.now komi replay result }
     ensures fit { IfOk result IsFit }
+    ensures few { IfOk result HasFewPrisoners }
     ensures board { IfOk result (λ s. s.board ≡ replay.board) }
     ensures komi { IfOk result (λ s. s.komi_halves ≡ komi) }
 {
@@ -161,6 +162,7 @@ fn finish_line(
     requires undeclared { DeclaresNothing replay.board }
     ensures answer { AnswersTerritory settings.now (map node_text line.now) komi replay result }
     ensures fit { IfOk result IsFit }
+    ensures few { IfOk result HasFewPrisoners }
     ensures undeclared { IfOk result (λ s. (settings.now.territory ≡ false)
         → DeclaresNothing s.board) }
     ensures komi { IfOk result (λ s. s.komi_halves ≡ komi) }
@@ -241,6 +243,7 @@ pub fn position(alloc: Global, tree: &Tree, settings: &Settings) -> Result<Setup
     requires komi { IfSome settings.now.komi IsInRange }
     ensures answer { AnswersPosition tree.now settings.now result }
     ensures fit { IfOk result IsFit }
+    ensures few { IfOk result HasFewPrisoners }
     ensures undeclared { IfOk result (λ s. (settings.now.territory ≡ false)
         → DeclaresNothing s.board) }
     ensures komi { IfOk result (λ s. IsInRange s.komi_halves) }

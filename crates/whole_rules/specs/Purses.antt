@@ -16,10 +16,14 @@ abbrev pub paid_in : Colour → ℕ → Purses → Purses
 paid_in Black n m = record m { black = m.black + n }
 paid_in White n m = record m { white = m.white + n }
 
+-- the purses with n points fewer in that of a player
+abbrev pub taken_out : Colour → ℕ → Purses → Purses
+taken_out Black n m = record m { black = m.black - n }
+taken_out White n m = record m { white = m.white - n }
+
 -- the purses after a player has spent a point
 abbrev pub paid_out : Colour → Purses → Purses
-paid_out Black m = record m { black = m.black - 1 }
-paid_out White m = record m { white = m.white - 1 }
+paid_out c m = taken_out c 1 m
 
 -- the purses where a player removes the token: its owner gets a point if the player is the opponent
 abbrev pub rewarded : Token → Colour → Purses → Purses

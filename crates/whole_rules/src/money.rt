@@ -2,7 +2,7 @@
 
 ghost use Rattle.std.specs.Prelude.{◌≡◌, ◌+◌, ◌^◌, ◌<◌, ◌≤◌, ◌↔◌, true};
 ghost use Rattle.whole_rules.specs.declared.money.Token.TheVariants.{Nobody};
-ghost use Rattle.whole_rules.specs.Purses.{purse, paid_in, paid_out, halved};
+ghost use Rattle.whole_rules.specs.Purses.{purse, paid_in, taken_out, paid_out, halved};
 
 use go_grid::Colour;
 
@@ -64,21 +64,29 @@ impl Purses {
         }
     }
 
+    /// The purses with some points fewer in that of a player.
+    pub fn taken_out(self, colour: Colour, points: u64) -> Purses
+        requires { points ≤ purse colour self }
+        ensures { result ≡ taken_out colour points self }
+    {
+        match colour {
+            Colour::Black => Purses {
+                black: self.black - points,
+                ..self
+            },
+            Colour::White => Purses {
+                white: self.white - points,
+                ..self
+            },
+        }
+    }
+
     /// The purses after a player has spent a point.
     pub fn paid_out(self, colour: Colour) -> Purses
         requires { 1 ≤ purse colour self }
         ensures { result ≡ paid_out colour self }
     {
-        match colour {
-            Colour::Black => Purses {
-                black: self.black - 1,
-                ..self
-            },
-            Colour::White => Purses {
-                white: self.white - 1,
-                ..self
-            },
-        }
+        self.taken_out(colour, 1)
     }
 
     /// The purses after a player's move on the token.

@@ -1,7 +1,7 @@
 //! States of the whole game and their moves.
 
-ghost use Rattle.std.specs.Prelude.{◌≡◌, ◌^◌, ◌<◌, ◌↔◌, true, length, IfOk};
-ghost use Rattle.whole_rules.specs.Purses.{purse};
+ghost use Rattle.std.specs.Prelude.{◌≡◌, ◌^◌, ◌<◌, ◌≤◌, ◌↔◌, true, length, IfOk};
+ghost use Rattle.whole_rules.specs.Purses.{purse, taken_out};
 ghost use Rattle.whole_rules.specs.WholeGame.{Applies, IsLegal, ListsMoves, IsFirstMove};
 ghost use Rattle.whole_rules.specs.inner.WholeGame.{MovesBelow};
 
@@ -237,6 +237,16 @@ impl Whole {
             Err(PlaceError::Occupied) => Err(MoveError::Occupied),
             Err(PlaceError::Suicide) => Err(MoveError::Suicide),
         }
+    }
+
+    /// Takes points out of a player's purse, which is no move: the side to move stays.
+    pub fn take_out(&mut self, colour: Colour, points: u64)
+        requires { points ≤ purse colour self.old.purses }
+        ensures { self.new ≡ record self.old {
+          purses = taken_out colour points self.old.purses;
+        } }
+    {
+        self.purses = self.purses.taken_out(colour, points);
     }
 
     /// Makes a move of the side to move, or leaves the state as it was where the move is illegal: for a stone

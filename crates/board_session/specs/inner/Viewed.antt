@@ -5,7 +5,7 @@ use Rattle.board_session.specs.declared.request.Request.TheVariants as request
 use Rattle.board_session.specs.declared.request.Asked.{Asked as AskedRequest}
 use Rattle.board_session.specs.declared.request.Asked.TheVariants as asked
 use Rattle.board_session.specs.Orders.{BoardOrder, Asked}
-use Rattle.board_session.specs.Orders.BoardOrder.{tell, known, ask, boardsize, clear_board, komi, play, undo, fixed_handicap, free_handicap, quit}
+use Rattle.board_session.specs.Orders.BoardOrder.{tell, known, ask, boardsize, clear_board, komi, play, genmove, reg_genmove, loadsgf, undo, fixed_handicap, free_handicap, quit}
 use Rattle.board_session.specs.Orders.Asked.{something, unknown, misfit}
 
 -- the order that a request stands for
@@ -17,6 +17,9 @@ order_of (request.BoardSize n) = boardsize n
 order_of request.ClearBoard = clear_board
 order_of (request.Komi halves) = komi halves
 order_of (request.Play c w) = play c w
+order_of (request.GenMove c) = genmove c
+order_of (request.RegGenMove c) = reg_genmove c
+order_of (request.LoadSgf file after) = loadsgf file.now after
 order_of request.Undo = undo
 order_of (request.FixedHandicap n) = fixed_handicap n
 order_of (request.FreeHandicap words) = free_handicap (map (λ w. w.now) words.now)

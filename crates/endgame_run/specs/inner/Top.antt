@@ -1,5 +1,5 @@
 -- What the parts of the top call answer.
-use Rattle.std.specs.Prelude.{◌≡◌, ◌≢◌, codes, ℕ, ℤ, [], List, Bool, Option}
+use Rattle.std.specs.Prelude.{◌≡◌, ◌≢◌, codes, ℕ, ℤ, [], List, Bool, Option, true, false}
 use Rattle.desk_io.specs.Desk.{Input}
 use Rattle.go_grid.specs.declared.grid.Colour.{Colour}
 use Rattle.go_grid.specs.Chain.{IsSettled}
@@ -22,7 +22,7 @@ use Rattle.report.specs.Solution.{IsSolveText}
 use Rattle.report.specs.Values.{IsFirstUnshown, IsValuesText}
 use Rattle.endgame_run.specs.Cycles.{IsGameText}
 use Rattle.endgame_run.specs.Game.{IsEngine, IsGame, question_of_game}
-use Rattle.endgame_run.specs.Limits.{engine_limits, limits_of}
+use Rattle.endgame_run.specs.Limits.{board_limits, engine_limits, limits_of}
 use Rattle.endgame_run.specs.Question.{IsAnswer, IsPositionAnswer}
 use Rattle.endgame_run.specs.Refusal.{form_line}
 use Rattle.endgame_run.specs.Written.{Finishes}
@@ -34,13 +34,14 @@ use Rattle.endgame_run.specs.declared.status.Status.{Status}
 use Rattle.endgame_run.specs.declared.status.Status.TheVariants.{CannotRead, CannotWrite, Done, FormLimit, Memory, TooManyLines}
 
 -- the job asks a question within its limits, or for a game, with its colour for the engine, for the board of a number, for the answer to
--- an expression within its limit of parts, or for the engine within its limits
+-- an expression within its limit of parts, or for the engine within its limits, with a board of its own or without
 abbrev pub IsAsked : Job → Asked → Type 0
 IsAsked job (asked.Answer inquiry) = (job.task ≡ ask inquiry.question inquiry.word.now) × (inquiry.limits ≡ limits_of job)
 IsAsked job (asked.Game game) = (job.task ≡ play game.word.now) × (game.limits ≡ limits_of job) × (game.cycles ≡ job.cycles) × (game.engine ≡ job.engine)
 IsAsked job (asked.Trial number) = job.task ≡ trial number
 IsAsked job (asked.Calc line) = (job.task ≡ calc line.expression.now) × (line.parts ≡ job.parts)
-IsAsked job (asked.Gtp limits) = (job.task ≡ gtp) × (limits ≡ engine_limits job)
+IsAsked job (asked.Gtp limits) = (job.task ≡ gtp) × (job.keep_board ≡ false) × (limits ≡ engine_limits job)
+IsAsked job (asked.BoardGtp limits) = (job.task ≡ gtp) × (job.keep_board ≡ true) × (limits ≡ board_limits job)
 
 -- what is written behind a session of the engine, by its end, and the status: the line of a fault, or nothing
 abbrev pub IsClosed : GtpEnd → ℕ → ℕ → Option (List ℕ) → Option (List ℕ) → Status → Type 0

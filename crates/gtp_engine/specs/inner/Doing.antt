@@ -2,12 +2,14 @@
 use Rattle.std.specs.Prelude.{◌≡◌, ◌+◌, ◌++◌, ◌∷◌, [], ℕ, List, Some, None}
 use Rattle.go_grid.specs.declared.grid.Colour.{Colour}
 use Rattle.engine_player.specs.EngineGame.{EngineGame}
-use Rattle.gtp_engine.specs.declared.loading.Loading.{Loading}
-use Rattle.gtp_engine.specs.declared.loading.Loading.TheVariants.{Position, Nothing, Failed}
+use Rattle.gtp_words.specs.declared.loading.Loading.{Loading}
+use Rattle.gtp_words.specs.declared.loading.Loading.TheVariants.{Position, Nothing, Failed}
+use Rattle.gtp_words.specs.Loads.{failed_more, made_more}
 use Rattle.gtp_engine.specs.declared.reply.Refusal.TheVariants.{CannotLoadFile}
 use Rattle.gtp_engine.specs.declared.playing.Action.{Action}
 use Rattle.gtp_engine.specs.inner.Playing.{Acts}
 use Rattle.sgf_go.specs.Komi.{IsInRange}
+use Rattle.sgf_go.specs.Position.{IsFit}
 use Rattle.gtp_engine.specs.Request.{Asked, Order}
 use Rattle.gtp_engine.specs.Request.Asked.{something}
 use Rattle.gtp_engine.specs.Request.Order.{komi}
@@ -37,10 +39,9 @@ IsFresh a = a.table.game ≡ None
 -- the reply to a load of a file, and what it leaves
 abbrev pub IsLoadNoted : List ℕ → Loading → Engine → List ℕ → Engine → Type 0
 IsLoadNoted id (Position setup) a reply b = (reply ≡ reply_text id (done []))
-    × (b ≡ record a { table = record { setup = setup; game = None }; loads = a.loads + 1 })
-IsLoadNoted id Nothing a reply b = (reply ≡ reply_text id (refused CannotLoadFile)) × (b ≡ record a { loads = a.loads + 1 })
-IsLoadNoted id Failed a reply b = (reply ≡ reply_text id (refused CannotLoadFile))
-    × (b ≡ record a { loads = a.loads + 1; failed_loads = a.failed_loads ++ a.loads ∷ [] })
+    × (b ≡ record a { table = record { setup = setup; game = None }; loads = made_more a.loads })
+IsLoadNoted id Nothing a reply b = (reply ≡ reply_text id (refused CannotLoadFile)) × (b ≡ record a { loads = made_more a.loads })
+IsLoadNoted id Failed a reply b = (reply ≡ reply_text id (refused CannotLoadFile)) × (b ≡ record a { loads = failed_more a.loads })
 
 -- a komi that is ordered is in range
 abbrev pub HasKomiInRange : Order → Type 0
@@ -51,3 +52,9 @@ HasKomiInRange order = Unit {0}
 abbrev pub AsksInRange : Asked → Type 0
 AsksInRange (something order) = HasKomiInRange order
 AsksInRange asked = Unit {0}
+
+-- what a load comes to can be taken over: a position can be solved
+abbrev pub CanKeep : Loading → Type 0
+CanKeep (Position setup) = IsFit setup
+CanKeep Nothing = Unit {0}
+CanKeep Failed = Unit {0}

@@ -4,23 +4,28 @@ use Rattle.std.specs.Io.KnownBytes.{append_known}
 use Rattle.desk_io.specs.Lines.{IsLine}
 use Rattle.gtp_words.specs.declared.end.GtpEnd.{GtpEnd}
 use Rattle.gtp_words.specs.declared.end.GtpEnd.TheVariants.{Quit, InputEnded, ReadFault, WriteFault, TooManyLines, Memory}
-use Rattle.gtp_words.specs.Sessions.{Answers}
+use Rattle.gtp_words.specs.Loads.{Fate, Loads, NotesFate}
+use Rattle.gtp_words.specs.Sessions.{Answers, IsReply, Loaded}
 
 -- the line that the bytes begin with is answered, and these bytes come after it
-pub record Replies (A : Type 0) (Reply : Answers A) (a : A) (bytes text : List ℕ) (b : A) (rest : List ℕ) (last : Bool) : Type 0 where
+pub record Replies (A : Type 0) (Reply : Answers A) (before now : ℕ) (a : Loaded A) (bytes text : List ℕ) (b : Loaded A) (rest : List ℕ) (last : Bool) : Type 0 where
   pub some : bytes ≢ []
   pub line : List ℕ
   pub taken : IsLine 1024 bytes line rest
-  pub answered : Reply line a text b last
+  pub answered : IsReply A Reply before now line a text b last
 
 -- The reply to a line was written, or that there is none, by the end of the session that comes of it. Where the write failed a
 -- front part of the reply was written; where a read failed or memory was refused nothing was, and the line is still to be answered.
-abbrev pub LineTaken : (A : Type 0) → Answers A → A → List ℕ → Option (List ℕ) → Option (List ℕ) → Option GtpEnd → A → List ℕ → Type 0
-LineTaken A Reply a bytes holds holds' None b rest = (text : List ℕ) × Replies A Reply a bytes text b rest false × (holds' ≡ append_known holds text)
-LineTaken A Reply a bytes holds holds' (Some Quit) b rest = (text : List ℕ) × Replies A Reply a bytes text b rest true × (holds' ≡ append_known holds text)
-LineTaken A Reply a bytes holds holds' (Some InputEnded) b rest = (bytes ≡ []) × (b ≡ a) × (holds' ≡ holds)
-LineTaken A Reply a bytes holds holds' (Some ReadFault) b rest = (b ≡ a) × (holds' ≡ holds)
-LineTaken A Reply a bytes holds holds' (Some Memory) b rest = (b ≡ a) × (holds' ≡ holds)
-LineTaken A Reply a bytes holds holds' (Some WriteFault) b rest = (text more : List ℕ) × (last : Bool) × Replies A Reply a bytes (text ++ more) b rest last
+abbrev pub LineTaken : (A : Type 0) → Answers A → ℕ → ℕ → Loaded A → List ℕ → Option (List ℕ) → Option (List ℕ) → Option GtpEnd → Loaded A → List ℕ → Type 0
+LineTaken A Reply before now a bytes holds holds' None b rest = (text : List ℕ) × Replies A Reply before now a bytes text b rest false × (holds' ≡ append_known holds text)
+LineTaken A Reply before now a bytes holds holds' (Some Quit) b rest = (text : List ℕ) × Replies A Reply before now a bytes text b rest true × (holds' ≡ append_known holds text)
+LineTaken A Reply before now a bytes holds holds' (Some InputEnded) b rest = (bytes ≡ []) × (b ≡ a) × (holds' ≡ holds)
+LineTaken A Reply before now a bytes holds holds' (Some ReadFault) b rest = (b ≡ a) × (holds' ≡ holds)
+LineTaken A Reply before now a bytes holds holds' (Some Memory) b rest = (b ≡ a) × (holds' ≡ holds)
+LineTaken A Reply before now a bytes holds holds' (Some WriteFault) b rest = (text more : List ℕ) × (last : Bool) × Replies A Reply before now a bytes (text ++ more) b rest last
     × (holds' ≡ append_known holds text)
-LineTaken A Reply a bytes holds holds' (Some TooManyLines) b rest = ⊥
+LineTaken A Reply before now a bytes holds holds' (Some TooManyLines) b rest = ⊥
+
+-- something becomes of a load, or there is none, and it is noted
+abbrev pub IsSomeNoted : ℕ → ℕ → Loads → Loads → Type 0
+IsSomeNoted before now a b = (fate : Fate) × NotesFate before now fate a b

@@ -1,5 +1,9 @@
-use Rattle.std.proofs.Common.{refl, arith}
+use Rattle.std.proofs.Common.{refl, ap, arith, subst}
+use Rattle.gtp_words.specs.Loads.{AreLoads}
+use Rattle.gtp_words.specs.Sessions.{WritesByEnd}
+use Rattle.gtp_engine.specs.Session.{AnswersLine, Table, first_table}
 use Rattle.desk_io.specs.Desk.{desk, known, outside}
+use Rattle.endgame_run.specs.Engine.{engine_rules}
 use Rattle.endgame_run.specs.File.{most_of_engine}
 use Rattle.endgame_run.proofs.EngineLaws.{engine_ran, engine_refused, session_taken}
 use Rattle.endgame_run.proofs.TopLaws.{later_refl, nothing_taken, rest_of}
@@ -8,7 +12,7 @@ use Rattle.endgame_run.proofs.engine.run_gtp.Goals as goal
 pub returns-in_default-clause-ran : goal.returns-in_default-clause-ran
 returns-in_default-clause-ran g c =
     let a = known (outside g.H.Shelf g.S.Source g.K.Sink) (desk c.args.shelf.now c.args.lines.now c.args.out.now) in
-    record { played = engine_refused c.args.limits a a refl refl; taken = nothing_taken most_of_engine a.input.left }
+    record { played = engine_refused (engine_rules c.args.limits) a a refl refl; taken = nothing_taken most_of_engine a.input.left }
 
 pub returns-in_default-clause-later : goal.returns-in_default-clause-later
 returns-in_default-clause-later g c = later_refl (known (outside g.H.Shelf g.S.Source g.K.Sink) (desk c.args.shelf.now c.args.lines.now c.args.out.now))
@@ -18,9 +22,12 @@ returns-clause-ran g c =
     let o = outside g.H.Shelf g.S.Source g.K.Sink in
     let a = known o (desk c.args.shelf.now c.args.lines.now c.args.out.now) in
     let b = known o (desk c.run-end.new.shelf c.run-end.new.lines c.close.new.out) in
-    let run = c.run-end.ensures in record {
-      played = engine_ran c.args.limits a b c.in-Ok.engine c.run-end.new.self (g.K.Sink.faults c.run-end.new.out) (g.K.Sink.holds c.run-end.new.out) c.close.result c.run-end.result c.in-Ok.ensures
-          c.failed_loads-failed.ensures.numbered run.counted run.text run.read_fault run.write_fault run.later_writes c.close.ensures.later_writes c.close.ensures.closed;
+    let run = c.run-end.ensures in let loads = c.run-end.new.self.loads in let mid = g.K.Sink.holds c.run-end.new.out in record {
+      played = engine_ran (engine_rules c.args.limits) a b loads (g.K.Sink.faults c.run-end.new.out) mid c.close.result c.run-end.result
+          (subst AreLoads c.loads.ensures c.failures-failed.ensures.numbered) run.counted
+          (λ bytes told. subst (λ l. WritesByEnd Table (AnswersLine l a.input.files) loads.failures first_table bytes a.holds mid c.run-end.result)
+          (ap (λ e. e.limits) c.in-Ok.ensures) (run.text bytes told))
+          run.read_fault run.write_fault run.later_writes c.close.ensures.later_writes c.close.ensures.closed;
       taken = session_taken _ _ run.used;
     }
 

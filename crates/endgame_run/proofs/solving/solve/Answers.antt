@@ -1,7 +1,8 @@
 use Rattle.std.proofs.Common.{rules, subst, sym, ap, ◌∙◌}
 use Rattle.endgame_run.specs.Refusal.{refusal_line}
-use Rattle.endgame_run.specs.inner.Refusal.{NamesPoints}
-use Rattle.endgame_run.proofs.RefusalLaws.{fault_answer, game_answer, names_points}
+use Rattle.fault_words.specs.NamedPoints.{NamesPoints}
+use Rattle.fault_words.proofs.NamedPointLemmas.{names_points}
+use Rattle.endgame_run.proofs.RefusalLaws.{fault_answer, game_answer}
 use Rattle.endgame_run.proofs.solving.solve.Goals as goal
 
 pub refused-requires : goal.refused-requires

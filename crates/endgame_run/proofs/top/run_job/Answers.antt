@@ -3,7 +3,7 @@ use Rattle.desk_io.specs.Desk.{desk, input_of, known, outside}
 use Rattle.gd_words.specs.Viewed.{viewed}
 use Rattle.endgame_run.specs.inner.Top.{IsAsked}
 use Rattle.endgame_run.proofs.TopLaws.{later_refl}
-use Rattle.endgame_run.proofs.RunLaws.{calc_runs, engine_runs, game_runs, game_steps, question_runs, question_steps, trial_runs}
+use Rattle.endgame_run.proofs.RunLaws.{board_runs, calc_runs, engine_runs, game_runs, game_steps, question_runs, question_steps, trial_runs}
 use Rattle.endgame_run.proofs.top.run_job.Goals as goal
 
 pub returns-in-Answer-clause-ran : goal.returns-in-Answer-clause-ran
@@ -49,7 +49,13 @@ pub returns-in-Gtp-clause-ran : goal.returns-in-Gtp-clause-ran
 returns-in-Gtp-clause-ran g c =
     let own = subst (IsAsked (viewed c.args.job.now)) c.in-Gtp.is c.asked.ensures in
     engine_runs (outside g.H.Shelf g.S.Source g.K.Sink) (viewed c.args.job.now) (desk c.args.shelf.now c.args.lines.now c.args.out.now) c.run_gtp.result
-    (desk c.run_gtp.new.shelf c.run_gtp.new.lines c.run_gtp.new.out) c.in-Gtp.limits own.0 own.1 c.run_gtp.ensures.ran
+    (desk c.run_gtp.new.shelf c.run_gtp.new.lines c.run_gtp.new.out) c.in-Gtp.limits own.0 own.1 own.2 c.run_gtp.ensures.ran
+
+pub returns-in-BoardGtp-clause-ran : goal.returns-in-BoardGtp-clause-ran
+returns-in-BoardGtp-clause-ran g c =
+    let own = subst (IsAsked (viewed c.args.job.now)) c.in-BoardGtp.is c.asked.ensures in
+    board_runs (outside g.H.Shelf g.S.Source g.K.Sink) (viewed c.args.job.now) (desk c.args.shelf.now c.args.lines.now c.args.out.now) c.run_board.result
+    (desk c.run_board.new.shelf c.run_board.new.lines c.run_board.new.out) c.in-BoardGtp.limits own.0 own.1 own.2 c.run_board.ensures.ran
 
 pub run_question-requires-clause-untaxed : goal.run_question-requires-clause-untaxed
 run_question-requires-clause-untaxed g c taxed =

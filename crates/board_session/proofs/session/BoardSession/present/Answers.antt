@@ -14,6 +14,6 @@ pub returns-clause-fit : goal.returns-clause-fit
 returns-clause-fit c =
     let moves = c.self.inside.moves.items in let made = c.index-moves-number.result in let same = c.as_slice-moves.ensures.value in
     let some : length moves ≢ 0 = λ none. c.if-number-eq0.false (ap length same ∙ none) in
-    subst (λ s. IsFitAfter s.setup.board (length s.moves) (get_or c.as_slice-moves.result.now (length c.as_slice-moves.result.now - 1) made).after) c.self.view_is
-    (subst (IsFitAfter c.self.inside.setup.board (length moves)) (after_last c.self.inside.setup moves made some ∙ sym (ap (λ l. (get_or l (length l - 1) made).after) same))
+    subst (λ s. IsFitAfter s.setup (length s.moves) (get_or c.as_slice-moves.result.now (length c.as_slice-moves.result.now - 1) made).after) c.self.view_is
+    (subst (IsFitAfter c.self.inside.setup (length moves)) (after_last c.self.inside.setup moves made some ∙ sym (ap (λ l. (get_or l (length l - 1) made).after) same))
     (fits_present c.self.inside.komi_halves c.self.inside.setup moves c.self.invariant))

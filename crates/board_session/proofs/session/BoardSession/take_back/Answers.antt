@@ -1,11 +1,11 @@
 use Rattle.std.proofs.Common.{sym, subst, ap, ◌∙◌, ◌∷◌, ◌++◌, []}
-use Rattle.sgf_go.specs.Komi.{IsInRange}
+use Rattle.board_session.specs.Kept.{IsModest}
 use Rattle.board_session.proofs.KeptLemmas.{same_komi}
 use Rattle.board_session.proofs.OrderLemmas.{none_back, taken_back}
 use Rattle.board_session.proofs.session.BoardSession.take_back.Goals as goal
 
 pub put_komi-requires : goal.put_komi-requires
-put_komi-requires c = subst IsInRange (sym (same_komi c.in-Some.made.komi_before c.in-Some.ensures.komi)) c.in-Some.ensures.komi
+put_komi-requires c = subst IsModest (sym (same_komi c.in-Some.made.komi_before c.in-Some.ensures.komi)) c.in-Some.ensures.komi
 
 pub returns-in-Some-clause-taken : goal.returns-in-Some-clause-taken
 returns-in-Some-clause-taken c =

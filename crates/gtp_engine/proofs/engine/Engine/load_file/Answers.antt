@@ -1,7 +1,6 @@
 use Rattle.std.proofs.Common.{subst}
 use Rattle.desk_io.specs.Files.{told_file}
-use Rattle.gtp_engine.specs.Session.{load_settings}
-use Rattle.gtp_engine.specs.inner.Loading.{IsLoaded}
+use Rattle.gtp_words.specs.Files.{IsLoaded, load_settings}
 use Rattle.gtp_engine.proofs.AnswerLemmas.{loaded_fits, loads_obeyed}
 use Rattle.gtp_engine.proofs.engine.Engine.load_file.Goals as goal
 

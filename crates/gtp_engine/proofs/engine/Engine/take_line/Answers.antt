@@ -2,7 +2,9 @@ use Rattle.std.proofs.Common.{◌≤◌, ◌≡◌, ℕ, length, take, sym, ap, 
 use Rattle.std.specs.Io.KnownBytes.{append_known}
 use Rattle.desk_io.specs.Lines.{IsFound, UsesLines}
 use Rattle.desk_io.proofs.UsedLineLemmas.{used_line}
-use Rattle.gtp_engine.proofs.TakenLineLemmas.{taken_cut, taken_last, taken_on}
+use Rattle.gtp_words.proofs.TakenLineLemmas.{taken_cut, taken_last, taken_on}
+use Rattle.gtp_engine.specs.Session.{AnswersLine, Table}
+use Rattle.gtp_engine.specs.Written.{loaded}
 use Rattle.gtp_engine.proofs.engine.Engine.take_line.Goals as goal
 
 pub returns-in-Err-say-clause-taken : goal.returns-in-Err-say-clause-taken
@@ -11,8 +13,9 @@ returns-in-Err-say-clause-taken g c =
     let held = c.find_line.new.self in let left = g.S.Source.left c.args.lines.now in let left' = g.S.Source.left c.find_line.new.lines in
     let holds = g.K.Sink.holds c.args.out.now in let holds' = g.K.Sink.holds c.say.new.out in let f = c.in-Ok-Some.found in let answer = c.in-Ok.answer in
     let found = subst (λ x. IsFound 1024 held left' x) c.in-Ok-Some.field-0-is c.in-Ok-Some.ensures.found in
-    taken_cut files before now c.args.self.now c.args.reader.now held left left' holds c.find_line.ensures.same f found c.answer.new.self c.front.result.now c.drop_front.new.self c.front.ensures c.drop_front.ensures
-    answer.reply answer.quit holds' c.in-Ok.ensures.answered (subst (λ t. (n : ℕ) × (n ≤ length t) × (holds' ≡ append_known holds (take n t))) c.as_slice.ensures c.in-Err-say.ensures.bytes)
+    taken_cut Table (AnswersLine c.args.self.now.limits files) before now (loaded c.args.self.now) c.args.reader.now held left left' holds c.find_line.ensures.same f found (loaded c.answer.new.self)
+    c.front.result.now c.drop_front.new.self c.front.ensures c.drop_front.ensures
+    answer.reply answer.quit holds' c.in-Ok.ensures.answered.0 (subst (λ t. (n : ℕ) × (n ≤ length t) × (holds' ≡ append_known holds (take n t))) c.as_slice.ensures c.in-Err-say.ensures.bytes)
 
 pub returns-in-Err-say-clause-used : goal.returns-in-Err-say-clause-used
 returns-in-Err-say-clause-used g c =
@@ -26,8 +29,9 @@ returns-then-answer-clause-taken g c =
     let held = c.find_line.new.self in let left = g.S.Source.left c.args.lines.now in let left' = g.S.Source.left c.find_line.new.lines in
     let holds = g.K.Sink.holds c.args.out.now in let holds' = g.K.Sink.holds c.say.new.out in let f = c.in-Ok-Some.found in let answer = c.in-Ok.answer in
     let found = subst (λ x. IsFound 1024 held left' x) c.in-Ok-Some.field-0-is c.in-Ok-Some.ensures.found in
-    taken_last files before now c.args.self.now c.args.reader.now held left left' holds c.find_line.ensures.same f found c.answer.new.self c.front.result.now c.drop_front.new.self c.front.ensures c.drop_front.ensures
-    answer.reply answer.quit holds' c.in-Ok.ensures.answered c.if-answer.true (c.in-Ok-say.ensures.bytes ∙ ap (append_known holds) c.as_slice.ensures)
+    taken_last Table (AnswersLine c.args.self.now.limits files) before now (loaded c.args.self.now) c.args.reader.now held left left' holds c.find_line.ensures.same f found (loaded c.answer.new.self)
+    c.front.result.now c.drop_front.new.self c.front.ensures c.drop_front.ensures
+    answer.reply answer.quit holds' c.in-Ok.ensures.answered.0 c.if-answer.true (c.in-Ok-say.ensures.bytes ∙ ap (append_known holds) c.as_slice.ensures)
 
 pub returns-then-answer-clause-used : goal.returns-then-answer-clause-used
 returns-then-answer-clause-used g c =
@@ -41,8 +45,9 @@ returns-clause-taken g c =
     let held = c.find_line.new.self in let left = g.S.Source.left c.args.lines.now in let left' = g.S.Source.left c.find_line.new.lines in
     let holds = g.K.Sink.holds c.args.out.now in let holds' = g.K.Sink.holds c.say.new.out in let f = c.in-Ok-Some.found in let answer = c.in-Ok.answer in
     let found = subst (λ x. IsFound 1024 held left' x) c.in-Ok-Some.field-0-is c.in-Ok-Some.ensures.found in
-    taken_on files before now c.args.self.now c.args.reader.now held left left' holds c.find_line.ensures.same f found c.answer.new.self c.front.result.now c.drop_front.new.self c.front.ensures c.drop_front.ensures
-    answer.reply answer.quit holds' c.in-Ok.ensures.answered c.if-answer.false (c.in-Ok-say.ensures.bytes ∙ ap (append_known holds) c.as_slice.ensures)
+    taken_on Table (AnswersLine c.args.self.now.limits files) before now (loaded c.args.self.now) c.args.reader.now held left left' holds c.find_line.ensures.same f found (loaded c.answer.new.self)
+    c.front.result.now c.drop_front.new.self c.front.ensures c.drop_front.ensures
+    answer.reply answer.quit holds' c.in-Ok.ensures.answered.0 c.if-answer.false (c.in-Ok-say.ensures.bytes ∙ ap (append_known holds) c.as_slice.ensures)
 
 pub returns-clause-used : goal.returns-clause-used
 returns-clause-used g c =

@@ -1,0 +1,21 @@
+use Rattle.std.proofs.Common.{length, map, sym, ap, ◌∙◌, subst}
+use Rattle.board_session.specs.inner.Viewed.{asked_of}
+use Rattle.gtp_words.specs.Words.{AreWords, HasId}
+use Rattle.board_session.proofs.AnswerLemmas.{answered_words, reply_grown, some_words}
+use Rattle.board_session.proofs.engine.BoardEngine.answer.Goals as goal
+
+pub returns-clause-answered : goal.returns-clause-answered
+returns-clause-answered g c =
+    let files = g.H.Shelf.files c.args.shelf.now in let before = g.H.Shelf.faults c.args.shelf.now in let now = g.H.Shelf.faults c.meet.new.shelf in
+    let words = map (λ w. w.now) c.in_ok-words.words.items in let rest = map (λ w. w.now) c.take_id-headed.result.rest.now in let id = c.take_id-headed.result.id.now in
+    let answer = c.in_ok-answer.answer in
+    answered_words files before now c.args.line.now id words rest (asked_of c.read_asked.result) c.args.self.now c.meet.new.self answer.reply answer.quit
+    (subst (λ t. AreWords t words) (c.deref.ensures.value ∙ c.in_ok-text.ensures) c.in_ok-words.ensures)
+    (some_words (λ w. w.now) c.in_ok-words.words.items c.in_ok-words.words.len c.is_empty.result c.if-is_empty.false c.is_empty.ensures (ap length (sym c.deref-2.ensures.value) ∙ c.deref-2.ensures.len))
+    (subst (λ ws. HasId (map (λ w. w.now) ws) id rest) c.deref-2.ensures.value c.take_id-headed.ensures)
+    c.read_asked.ensures.asked c.in_ok-answer.ensures.met c.in_ok-answer.ensures.quit
+
+pub returns-clause-grown : goal.returns-clause-grown
+returns-clause-grown g c =
+    reply_grown (g.H.Shelf.files c.args.shelf.now) (g.H.Shelf.faults c.args.shelf.now) (g.H.Shelf.faults c.meet.new.shelf) c.args.line.now c.in_ok-answer.answer.reply
+    c.args.self.now c.meet.new.self c.in_ok-answer.answer.quit (returns-clause-answered g c)

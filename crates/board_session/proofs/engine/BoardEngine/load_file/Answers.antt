@@ -1,0 +1,17 @@
+use Rattle.std.proofs.Common.{subst}
+use Rattle.desk_io.specs.Files.{told_file}
+use Rattle.gtp_words.specs.Files.{IsLoaded, load_settings}
+use Rattle.board_session.proofs.AnswerLemmas.{loaded_fits, loads_obeyed}
+use Rattle.board_session.proofs.engine.BoardEngine.load_file.Goals as goal
+
+pub note-requires-clause-fit : goal.note-requires-clause-fit
+note-requires-clause-fit g c =
+    let files = g.H.Shelf.files c.args.shelf.now in
+    loaded_fits (told_file files c.in-Ok.name.now) (load_settings c.self.inside.limits.territory c.args.after) (g.H.Shelf.faults c.args.shelf.now) (g.H.Shelf.faults c.load.new.shelf) c.in_ok-loading.loading c.in_ok-loading.ensures.loaded
+
+pub returns-clause-loaded : goal.returns-clause-loaded
+returns-clause-loaded g c =
+    let files = g.H.Shelf.files c.args.shelf.now in let before = g.H.Shelf.faults c.args.shelf.now in let now = g.H.Shelf.faults c.load.new.shelf in
+    loads_obeyed files before now c.args.id.now c.args.file.now c.args.after c.args.self.now c.note.new.self c.in_ok-loading.loading c.note.result c.in-Ok.ensures.cases.1
+    (subst (λ name. IsLoaded (told_file files name) (load_settings c.args.self.now.limits.territory c.args.after) before now c.in_ok-loading.loading) c.in-Ok.ensures.cases.0
+    (subst (λ e. IsLoaded (told_file files c.in-Ok.name.now) (load_settings e.limits.territory c.args.after) before now c.in_ok-loading.loading) c.self.view_is c.in_ok-loading.ensures.loaded)) c.note.ensures.noted

@@ -1,0 +1,30 @@
+use Rattle.std.proofs.Common.{ap, refl, arith, subst, IfOk}
+use Rattle.board_session.specs.inner.Viewed.{order_of}
+use Rattle.board_session.specs.inner.Doing.{IsGenerated, IsSuggested}
+use Rattle.board_session.proofs.AnswerLemmas.{generated_obeyed, plain_obeyed, plain_same, suggested_obeyed}
+use Rattle.board_session.proofs.engine.BoardEngine.obey.Goals as goal
+
+pub returns-in_default : goal.returns-in_default
+returns-in_default g c =
+    let inside = c.self-in_default.inside in let is = c.self-in_default.view_is in let u = c.obey.new.self in record {
+      obeyed = plain_obeyed inside.limits inside.loads inside.session u c.args.self.now is (g.H.Shelf.files c.args.shelf.now) (g.H.Shelf.faults c.args.shelf.now) c.args.id.now
+          (order_of c.args.request) c.obey.result c.obey.ensures.obeyed;
+      same = plain_same inside.limits inside.loads inside.session u c.args.self.now is c.obey.result c.obey.ensures.same;
+      same_files = refl;
+      later = omega arith;
+      steps = λ regions are. omega arith;
+    }
+
+pub returns-in-GenMove-clause-obeyed : goal.returns-in-GenMove-clause-obeyed
+returns-in-GenMove-clause-obeyed g c =
+    let inside = c.self.inside in let u = c.generate.new.self in let colour = c.in-GenMove.colour in let id = c.args.id.now in
+    generated_obeyed inside.limits inside.loads inside.session u c.args.self.now c.self.view_is (g.H.Shelf.files c.args.shelf.now) (g.H.Shelf.faults c.args.shelf.now) id
+    (order_of c.args.request) colour (ap order_of c.in-GenMove.is) c.generate.result
+    (subst (λ l. IfOk c.generate.result (λ reply. IsGenerated l colour id inside.session reply u)) c.of_game-limits.ensures c.generate.ensures.generated)
+
+pub returns-in-RegGenMove-clause-obeyed : goal.returns-in-RegGenMove-clause-obeyed
+returns-in-RegGenMove-clause-obeyed g c =
+    let inside = c.self-in-RegGenMove.inside in let colour = c.in-RegGenMove.colour in let id = c.args.id.now in
+    suggested_obeyed inside.limits inside.loads inside.session inside.session c.args.self.now c.self-in-RegGenMove.view_is (g.H.Shelf.files c.args.shelf.now) (g.H.Shelf.faults c.args.shelf.now) id
+    (order_of c.args.request) colour (ap order_of c.in-RegGenMove.is) c.suggest.result
+    (subst (λ l. IfOk c.suggest.result (λ reply. IsSuggested l colour id inside.session reply)) c.of_game-limits-in-RegGenMove.ensures c.suggest.ensures.suggested)

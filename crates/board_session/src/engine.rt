@@ -1,0 +1,243 @@
+//! The engine: a session, and the loads of files that its lines ask for.
+
+ghost use Rattle.std.specs.Prelude.{◌≡◌, ◌≤◌, ◌<◌, ◌+◌, List, length, IfOk, OnErr};
+ghost use Rattle.desk_io.specs.declared.lines.TheConstants.{MOST_LINES};
+ghost use Rattle.go_grid.specs.Region.{Region};
+ghost use Rattle.region_cut.specs.Cut.{AreRegionsOfPlay};
+ghost use Rattle.endgame_solver.specs.Faults.{most_steps};
+ghost use Rattle.board_session.specs.Orders.Asked.{something};
+ghost use Rattle.board_session.specs.Orders.BoardOrder.{loadsgf};
+ghost use Rattle.board_session.specs.Session.{game_limits, is_last};
+ghost use Rattle.board_session.specs.States.{present};
+ghost use Rattle.board_session.specs.Written.{IsBoardReply, unused};
+ghost use Rattle.board_session.specs.inner.Doing.{AsksInRange, CanTakeUp, HasKomiInRange};
+ghost use Rattle.board_session.specs.inner.Obeying.{IsLoadNoted, IsMet, IsObeyed};
+ghost use Rattle.board_session.specs.inner.Viewed.{asked_of, order_of};
+
+use crate::limits::BoardLimits;
+use crate::refusal::{Refusal, accept, refuse};
+use crate::request::{Asked, Request, read_asked};
+use crate::session::BoardSession;
+use board_words::colour_word;
+use desk_io::Shelf;
+use gtp_words::{Loading, Loads, MOST_LOADS, clean, load, split, take_id};
+use item_list::ItemList;
+use local_graph::MOST_POSITIONS;
+use local_play::Steps;
+use std::alloc::{AllocError, Global};
+use std::marker::Model;
+use std::str;
+use std::sync::ledger::Ledger;
+
+/// The reply to a line, and whether the session ends with it.
+#[derive(Debug, Drop)]
+pub struct Answer {
+    pub reply: ItemList<u8>,
+    pub quit: bool,
+}
+
+/// A board session and its loads. Contracts see these and the limits.
+#[derive(Debug, Drop)]
+pub struct BoardEngine {
+    limits: BoardLimits,
+    session: BoardSession,
+    loads: Loads,
+}
+
+impl Model for BoardEngine {
+    ghost use Rattle.std.specs.Prelude.{◌≤◌};
+    ghost use Rattle.local_graph.specs.declared.graph.TheConstants.{MOST_POSITIONS};
+    ghost use Rattle.board_session.specs.Written.{BoardEngine};
+
+    ghost Value = { BoardEngine };
+
+    ghost view = { λ e. record { limits = e.limits; state = e.session; loads = e.loads } };
+
+    ghost invariant = { λ e. e.limits.positions ≤ MOST_POSITIONS };
+}
+
+/// Whether a request ends the session.
+fn is_quit(request: &Request<'_, '_>) -> bool
+    ensures { result ≡ is_last (something (order_of request.now)) }
+{
+    matches!(request, Request::Quit)
+}
+
+impl BoardEngine {
+    /// An engine with an empty board of 19 by 19 and no komi.
+    pub fn new(alloc: Global, limits: BoardLimits) -> Result<BoardEngine, AllocError>
+        requires positions { limits.positions ≤ MOST_POSITIONS }
+        ensures { IfOk result (λ engine. engine ≡ unused limits) }
+    {
+        Ok(BoardEngine {
+            limits,
+            session: BoardSession::new(alloc)?,
+            loads: Loads::new(alloc),
+        })
+    }
+
+    /// The loads so far.
+    pub fn loads(&self) -> &Loads
+        ensures { result.now ≡ self.now.loads }
+    {
+        &self.loads
+    }
+
+    /// Notes what a load comes to.
+    fn note(&mut self, id: &[u8], loading: Loading) -> Result<ItemList<u8>, AllocError>
+        requires few { self.old.loads.count < MOST_LOADS }
+        requires fit { CanTakeUp loading }
+        ensures noted { IfOk result (λ reply. IsLoadNoted id.now loading self.old reply self.new) }
+        ensures same { OnErr result (self.new ≡ self.old) }
+    {
+        let alloc = self.session.allocator();
+        let refused = refuse(alloc, id, Refusal::CannotLoadFile)?;
+        match loading {
+            Loading::Position(setup) => {
+                let reply = accept(alloc, id, colour_word(setup.side).as_bytes())?;
+                self.session.take_up(setup);
+                self.loads.note_made();
+                Ok(reply)
+            }
+            Loading::Nothing => {
+                self.loads.note_made();
+                Ok(refused)
+            }
+            Loading::Failed => {
+                self.loads.note_failed()?;
+                Ok(refused)
+            }
+        }
+    }
+
+    /// Loads a file of the shelf.
+    fn load_file<H: Shelf>(
+        &mut self,
+        id: &[u8],
+        file: &[u8],
+        after: Option<u32>,
+        shelf: &mut H,
+    ) -> Result<ItemList<u8>, AllocError>
+        requires few { self.old.loads.count < MOST_LOADS }
+        ensures loaded { IfOk result (λ reply. IsObeyed (H.files shelf.old) (H.faults shelf.old)
+            (H.faults shelf.new) id.now (loadsgf file.now after) self.old reply self.new) }
+        ensures same { OnErr result (self.new ≡ self.old) }
+        ensures same_files { H.files shelf.new ≡ H.files shelf.old }
+        ensures later { H.faults shelf.old ≤ H.faults shelf.new }
+    {
+        let alloc = self.session.allocator();
+        let name = match str::from_utf8(file) {
+            Ok(name) => name,
+            Err(_) => return refuse(alloc, id, Refusal::CannotLoadFile),
+        };
+        let loading = load(alloc, shelf, name, self.limits.territory, after)?;
+        self.note(id, loading)
+    }
+
+    /// Does what a request says.
+    fn obey<H: Shelf, L: Ledger>(
+        &mut self,
+        id: &[u8],
+        request: Request<'_, '_>,
+        shelf: &mut H,
+        steps: &mut Steps<L>,
+    ) -> Result<ItemList<u8>, AllocError>
+        requires few { self.old.loads.count < MOST_LOADS }
+        requires few_moves { length self.old.state.moves < MOST_LINES }
+        requires komi { HasKomiInRange (order_of request) }
+        ensures obeyed { IfOk result (λ reply. IsObeyed (H.files shelf.old) (H.faults shelf.old)
+            (H.faults shelf.new) id.now (order_of request.entry) self.old reply self.new) }
+        ensures same { OnErr result (self.new ≡ self.old) }
+        ensures same_files { H.files shelf.new ≡ H.files shelf.old }
+        ensures later { H.faults shelf.old ≤ H.faults shelf.new }
+        ensures steps { (regions : List Region)
+            → AreRegionsOfPlay (present self.old.state).board regions
+            → steps.new ≤ steps.old + most_steps (game_limits self.old.limits) regions }
+    {
+        match request {
+            Request::LoadSgf(file, after) => self.load_file(id, file, after, shelf),
+            Request::GenMove(colour) => {
+                let limits = self.limits.of_game();
+                self.session.generate(id, colour, &limits, steps)
+            }
+            Request::RegGenMove(colour) => {
+                let limits = self.limits.of_game();
+                self.session.suggest(id, colour, &limits, steps)
+            }
+            plain => self.session.obey(id, plain),
+        }
+    }
+
+    /// Answers what words ask for.
+    fn meet<H: Shelf, L: Ledger>(
+        &mut self,
+        id: &[u8],
+        asked: Asked<'_, '_>,
+        shelf: &mut H,
+        steps: &mut Steps<L>,
+    ) -> Result<Answer, AllocError>
+        requires few { self.old.loads.count < MOST_LOADS }
+        requires few_moves { length self.old.state.moves < MOST_LINES }
+        requires komi { AsksInRange (asked_of asked) }
+        ensures met { IfOk result (λ answer. IsMet (H.files shelf.old) (H.faults shelf.old)
+            (H.faults shelf.new) id.now (asked_of asked.entry) self.old answer.reply self.new) }
+        ensures quit { IfOk result (λ answer. answer.quit ≡ is_last (asked_of asked.entry)) }
+        ensures same { OnErr result (self.new ≡ self.old) }
+        ensures same_files { H.files shelf.new ≡ H.files shelf.old }
+        ensures later { H.faults shelf.old ≤ H.faults shelf.new }
+        ensures steps { (regions : List Region)
+            → AreRegionsOfPlay (present self.old.state).board regions
+            → steps.new ≤ steps.old + most_steps (game_limits self.old.limits) regions }
+    {
+        let alloc = self.session.allocator();
+        match asked {
+            Asked::Something(request) => {
+                let quit = is_quit(&request);
+                let reply = self.obey(id, request, shelf, steps)?;
+                Ok(Answer { reply, quit })
+            }
+            Asked::Unknown => {
+                let reply = refuse(alloc, id, Refusal::UnknownCommand)?;
+                Ok(Answer { reply, quit: false })
+            }
+            Asked::Misfit => {
+                let reply = refuse(alloc, id, Refusal::SyntaxError)?;
+                Ok(Answer { reply, quit: false })
+            }
+        }
+    }
+
+    /// Answers a line, or leaves the engine as it was where memory is refused. A load that fails is noted.
+    pub fn answer<H: Shelf, L: Ledger>(
+        &mut self,
+        line: &[u8],
+        shelf: &mut H,
+        steps: &mut Steps<L>,
+    ) -> Result<Answer, AllocError>
+        requires few { self.old.loads.count < MOST_LOADS }
+        requires few_moves { length self.old.state.moves < MOST_LINES }
+        ensures answered { IfOk result (λ answer. IsBoardReply (H.files shelf.old)
+            (H.faults shelf.old)
+            (H.faults shelf.new) line.now self.old answer.reply self.new answer.quit) }
+        ensures grown { length self.new.state.moves ≤ length self.old.state.moves + 1 }
+        ensures same { OnErr result (self.new ≡ self.old) }
+        ensures same_files { H.files shelf.new ≡ H.files shelf.old }
+        ensures later_loads { H.faults shelf.old ≤ H.faults shelf.new }
+        ensures steps { (regions : List Region)
+            → AreRegionsOfPlay (present self.old.state).board regions
+            → steps.new ≤ steps.old + most_steps (game_limits self.old.limits) regions }
+    {
+        let alloc = self.session.allocator();
+        let text = clean(alloc, line)?;
+        let words = split(alloc, &text)?;
+        if words.is_empty() {
+            return Ok(Answer {
+                reply: ItemList::new(alloc),
+                quit: false,
+            });
+        }
+        let headed = take_id(&words);
+        let answer = self.meet(headed.id, read_asked(headed.rest), shelf, steps)?;
+        Ok(answer)
+    }
+}

@@ -1,0 +1,110 @@
+//! Sessions of the engine that keeps a board.
+
+use crate::runs::{Failing, FailingRow, NOTHING_FAILS, first_failing_wrong};
+use endgame_run::Status;
+use std::test::Fail;
+
+/// A corridor of two points: the engine closes it where it may, passes cost points, and moves are taken back.
+const PLAYED: &[u8] =
+    b"1 loadsgf d\nreg_genmove b\nplay w F2\n2 genmove b\ngenmove w\ngenmove b\ngenmove w\ngenmove b\ngenmove w\n\
+    play w pass\ngenmove b\nundo\nundo 0\nmove_history\nlist_stones w\n";
+
+const PLAYED_TEXT: &str =
+    "=1 black\n\n= F2\n\n= \n\n=2 E2\n\n= PASS\n\n= PASS\n\n= PASS\n\n= PASS\n\n= resign\n\n= \n\n\
+    ? cannot solve: purse\n\n= \n\n= \n\n= white PASS\nblack PASS\nwhite PASS\nblack E2\nwhite F2\n\n\
+    = G3 J3 F2 G2 H2 J2 K2 G1 H1 J1 K1\n\n";
+
+/// A capture on an empty board, in any order of colours, and what stands then.
+const PLACED: &[u8] =
+    b"boardsize 3\nplay w a1\nplay b a2\nplay b b1\nlist_stones w\ncaptures b\nplay b a1\nplay w a1\nshowboard\n\
+    undo\nundo\ncaptures b\nquery_boardsize\nkomi -0.50\nget_komi\nlevel 1\nquit\nname\n";
+
+const PLACED_TEXT: &str =
+    "= \n\n= \n\n= \n\n= \n\n= \n\n= 1\n\n= \n\n? illegal move\n\n\
+    = \n   A B C\n 3 . . . 3\n 2 X . . 2\n 1 X X . 1\n   A B C\nblack prisoners 1\nwhite prisoners 0\nkomi 0\n\n\
+    = \n\n= \n\n= 0\n\n= 3\n\n= \n\n= -0.5\n\n= \n\n= \n\n";
+
+/// What keeps a position from being solved, and orders that don't fit.
+const REFUSED: &[u8] =
+    b"genmove b\nloadsgf e\ngenmove w\nloadsgf nothing\nundo\nundo x\nset_free_handicap A1\nfixed_handicap 1\n\
+    play b half\ngenmove\nloadsgf d 0\nloadsgf saved 2\nhalf\nknown_command reg_genmove\n";
+
+const REFUSED_TEXT: &str =
+    "? cannot solve: region A19 points 361\n\n= black\n\n? cannot solve: cycle E2 1 black:F2 white:E2 black:F2\n\n\
+    ? cannot load file\n\n? cannot undo\n\n? syntax error\n\n? syntax error\n\n? board not empty\n\n\
+    ? syntax error\n\n? syntax error\n\n= black\n\n= white\n\n? unknown command\n\n= true\n\n";
+
+const NO_FIRST_LOAD: Failing = Failing {
+    load: 0,
+    ..NOTHING_FAILS
+};
+
+const NO_SECOND_READ: Failing = Failing {
+    read: 1,
+    ..NOTHING_FAILS
+};
+
+const SESSIONS: [FailingRow; 7] = [
+    (
+        "gtp~--board~yes",
+        PLAYED,
+        2_000,
+        NOTHING_FAILS,
+        Status::Done,
+        PLAYED_TEXT,
+    ),
+    (
+        "gtp~--board~yes",
+        PLACED,
+        2_000,
+        NOTHING_FAILS,
+        Status::Done,
+        PLACED_TEXT,
+    ),
+    (
+        "gtp~--board~yes",
+        REFUSED,
+        2_000,
+        NOTHING_FAILS,
+        Status::Done,
+        REFUSED_TEXT,
+    ),
+    (
+        "gtp~--board~yes",
+        b"loadsgf d\nloadsgf d\n",
+        500,
+        NO_FIRST_LOAD,
+        Status::Done,
+        "? cannot load file\n\n= black\n\n",
+    ),
+    (
+        "gtp~--board~yes",
+        b"2 name\nversion\n",
+        500,
+        NO_SECOND_READ,
+        Status::CannotRead,
+        "=2 gdsolve\n\nfault cannot read\n",
+    ),
+    (
+        "gtp~--board~yes~--positions~1",
+        b"loadsgf d\ngenmove b\n",
+        500,
+        NOTHING_FAILS,
+        Status::Done,
+        "= black\n\n? cannot solve: region E2 positions over 1\n\n",
+    ),
+    (
+        "gtp~--board~yes~--cycles~yes",
+        b"name\n",
+        500,
+        NOTHING_FAILS,
+        Status::Usage,
+        "fault usage\n",
+    ),
+];
+
+#[test]
+fn keeps_a_board(rt: HostRuntime) -> Result<(), Fail> {
+    assert_eq!(rt; first_failing_wrong(rt.alloc(), &SESSIONS)?, None);
+    Ok(())
+}
