@@ -91,5 +91,5 @@ some_words f (x ∷ xs) n empty not is len none = absurd (cc none)
 pub answered_words : (files : Option Files) (before now : ℕ) (line id : List ℕ) (words rest : List (List ℕ)) (asked : Asked) (a b : Engine) (reply : List ℕ) (last : Bool)
     → AreWords (cleaned line) words → words ≢ [] → HasId words id rest → Asks rest asked → IsMet files before now id asked a reply b → last ≡ is_last asked → IsEngineReply files before now line a reply b last
 answered_words files before now line id [] rest asked a b reply last are some has asks h end = absurd (some refl)
-answered_words files before now line id (word ∷ words) rest asked a b reply last are some has asks h end = 
+answered_words files before now line id (word ∷ words) rest asked a b reply last are some has asks h end =
     (record { fate = h.0; answered = (word ∷ words, are, (id, rest, asked, h.1, has, asks, h.2, h.3, end)); noted = h.4 }, h.5)

@@ -19,8 +19,7 @@ const PLACED: &[u8] =
     b"boardsize 3\nplay w a1\nplay b a2\nplay b b1\nlist_stones w\ncaptures b\nplay b a1\nplay w a1\nshowboard\n\
     undo\nundo\ncaptures b\nquery_boardsize\nkomi -0.50\nget_komi\nlevel 1\nquit\nname\n";
 
-const PLACED_TEXT: &str =
-    "= \n\n= \n\n= \n\n= \n\n= \n\n= 1\n\n= \n\n? illegal move\n\n\
+const PLACED_TEXT: &str = "= \n\n= \n\n= \n\n= \n\n= \n\n= 1\n\n= \n\n? illegal move\n\n\
     = \n   A B C\n 3 . . . 3\n 2 X . . 2\n 1 X X . 1\n   A B C\nblack prisoners 1\nwhite prisoners 0\nkomi 0\n\n\
     = \n\n= \n\n= 0\n\n= 3\n\n= \n\n= -0.5\n\n= \n\n= \n\n";
 

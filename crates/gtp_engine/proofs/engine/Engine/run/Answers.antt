@@ -38,7 +38,7 @@ session-preserved g c =
     let left' = g.S.Source.left c.take_line.new.lines in let holds' = g.K.Sink.holds c.take_line.new.out in
     let noted = c.take_line.ensures.noted in
     let on = subst (λ r. Taken Table (AnswersLine at.self.limits (g.H.Shelf.files at.shelf)) before now (loaded at.self) at.reader left holds holds' r (loaded new) held left')
-        c.in_default.is c.take_line.ensures.taken in (
+    c.in_default.is c.take_line.ensures.taken in (
       going_line Table Reply first_table left₀ holds₀ (loaded at.self) at._read at.reader left holds inv.0 before now (loaded new) held left' holds' c.session-test.true inv.2
           (subst (λ l. Taken Table (AnswersLine l files) before now (loaded at.self) at.reader left holds holds' None (loaded new) held left') inv.1
           (subst (λ f. Taken Table (AnswersLine at.self.limits f) before now (loaded at.self) at.reader left holds holds' None (loaded new) held left') inv.5 on)),

@@ -11,7 +11,7 @@ use Rattle.gtp_engine.proofs.engine.Engine.run.Given as goal
 
 abbrev pub invariant-session : goal.invariant-session
 invariant-session g l = Going Table (AnswersLine l.fn.self.limits (g.H.Shelf.files l.fn.shelf)) first_table (g.S.Source.left l.fn.lines) (g.K.Sink.holds l.fn.out)
-        (loaded l.self) l._read l.reader (g.S.Source.left l.lines) (g.K.Sink.holds l.out)
+    (loaded l.self) l._read l.reader (g.S.Source.left l.lines) (g.K.Sink.holds l.out)
     × (l.self.limits ≡ l.fn.self.limits) × AreBelow l.self.loads × (l.self.loads.count ≤ l._read)
     × RoseBy (length l.self.loads.failures) (g.H.Shelf.faults l.fn.shelf) (g.H.Shelf.faults l.shelf)
     × (g.H.Shelf.files l.shelf ≡ g.H.Shelf.files l.fn.shelf) × (g.H.Shelf.faults l.fn.shelf ≤ g.H.Shelf.faults l.shelf)
