@@ -1,5 +1,7 @@
 -- A game of several parts, with two purses and a token: who loses is the sign of the sum of the parts' trees, the purses and the token.
-use Rattle.std.proofs.Common.{ℕ, zero, suc, ◌≤◌, arith, ◌≡◌, inl, inr, sym, subst, ◌≢◌, ◌⊎◌, ◌+◌, ◌-◌, ◌<◌, refl, ap, ℤ, pos, ◌+ℤ◌, List, [], ◌∷◌}
+use Rattle.std.proofs.Common.{ℕ, zero, suc, ◌≤◌, arith, ◌≡◌, inl, inr, sym, subst, ◌≢◌, ◌⊎◌, ◌+◌, ◌-◌, ◌<◌, refl, ap, ℤ, pos, ◌+ℤ◌, List, [], ◌∷◌, length, get_or, max, Contains}
+use Rattle.std.specs.List.{sum_by}
+use Rattle.std.proofs.lemmas.List.Sums.{get_or-le-sum_by}
 use Rattle.whole_rules.specs.PlainRecursion.{WinsWithin, LosesWithin}
 use Rattle.local_value.specs.Ending.{EndsWithin}
 use Rattle.go_grid.specs.declared.grid.Colour.{Colour}
@@ -15,11 +17,13 @@ use Rattle.short_games.specs.Number.{num, whole, count_tree}
 use Rattle.short_games.proofs.SumLaws.{InSum, plus-nought, plus-assoc, same-plus, same-swap}
 use Rattle.short_games.proofs.SumLaws.InSum.{in_first, in_second}
 use Rattle.short_games.proofs.NumberLaws.{num-zero, num-double, num-plus_le, num-le_plus}
-use Rattle.endgame_solver.specs.SumGame.{token_tree, purses_tree, halves, balance, StepIn, parts_tree, AllEnd, State, Leads, state_tree, IsDecidedBy}
+use Rattle.endgame_solver.specs.SumGame.{token_tree, purses_tree, halves, balance, StepIn, parts_tree, AllEnd, EachPlayEnds, State, Leads, state_tree, IsDecidedBy}
+use Rattle.endgame_solver.specs.SumGame.EachPlayEnds.{ends}
 use Rattle.whole_rules.specs.Purses.{purse, paid_in, paid_out, halved}
 use Rattle.whole_rules.specs.declared.money.Purses.{Purses}
 use Rattle.short_games.proofs.OrderLaws.{same-refl, same-path, same-sym, same-trans}
-use Rattle.local_value.specs.LocalGame.{Step, StepsTo, tree_within, TakesAtMost}
+use Rattle.local_value.specs.LocalGame.{Step, StepsTo, tree_within}
+use Rattle.local_value.proofs.MoveLaws.{contains-cases, contains-head, contains-tail}
 use Rattle.local_value.proofs.TreeLaws.{move-option, option-move}
 use Rattle.whole_rules.proofs.OutcomeLaws.{wins-not_loses}
 use Rattle.whole_rules.specs.declared.money.Token.TheVariants as token
@@ -31,6 +35,20 @@ module _ (S : Type 0) (Leads : S → S → Type 0) where
   ends-more zero (suc m) s a e = λ t h. absurd (e t h)
   ends-more (suc n) zero s a e = absurd (omega (arith, a))
   ends-more (suc n) (suc m) s a e = λ t h. ends-more n m t (omega (arith, a)) (e t h)
+
+  -- where play from each item ends within some number of moves, one number serves all
+  some-bound : (X : Type 0) (at : X → S) (xs : List X) → ((x : X) → Contains xs x → (n : ℕ) × EndsWithin S Leads n (at x))
+      → (n : ℕ) × ((x : X) → Contains xs x → EndsWithin S Leads n (at x))
+  some-bound X at [] f = (0, λ x h. absurd (omega (arith, h.1)))
+  some-bound X at (y ∷ xs) f =
+      let (n, e) = f y (contains-head X y xs) in
+      let (m, g) = some-bound X at xs (λ x h. f x (contains-tail X y x xs h)) in (
+        max n m,
+        λ x h. elim (contains-cases X y x xs h) [
+          | inl same ↦ ends-more n (max n m) (at x) (omega arith) (subst (λ z. EndsWithin S Leads n (at z)) same e)
+          | inr later ↦ ends-more m (max n m) (at x) (omega arith) (g x later)
+        ],
+      )
 
 -- games that match move by move have the same outcomes
 module _ (S T : Type 0) (LeadsS : S → S → Type 0) (LeadsT : T → T → Type 0) (R : S → T → Type 0) where
@@ -225,15 +243,6 @@ purses-balance m = let n : ℤ = credit Black m.black +ℤ credit White m.white 
     (same-plus _ _ _ _ (num-plus_le 0 (credit Black m.black) (credit White m.white), num-le_plus 0 (credit Black m.black) (credit White m.white)) (same-path _ _ (token-halves m.token)))
     (rw (← num-double 0 n) (num-plus_le 1 (n +ℤ n) (halves m.token), num-le_plus 1 (n +ℤ n) (halves m.token)))
 
--- what n local moves can bring, each with the stones that it takes
-abbrev yield : ℕ → ℕ → ℕ
-yield most zero = 0
-yield most (suc n) = suc (most + yield most n)
-
-abbrev yields : ℕ → List ℕ → ℕ
-yields most [] = 0
-yields most (n ∷ ns) = yield most n + yields most ns
-
 pub no_option : (c : Colour) (X : Tree) → Has (options c (node none none)) X → ⊥
 no_option Black X h = h
 no_option White X h = h
@@ -298,44 +307,99 @@ module _ (P : Type 0) (moves : Colour → P → List (Step P)) where
   all_end-step n c (p ∷ ps) (q ∷ qs) k e (inl (m, r)) = (ends-step n p q e.0 (c, (m.0, m.1, m.2)), subst (λ z. AllEnd P moves n z) r e.1)
   all_end-step n c (p ∷ ps) (q ∷ qs) k e (inr (r, h)) = (subst (λ z. EndsWithin P (StepsTo P moves) n z) r e.0, all_end-step n c ps qs k e.1 h)
 
+  -- A position whose plays all end has a bound for them, since each position has finitely many moves.
+  ends-some : (p : P) → EachPlayEnds P moves p → (n : ℕ) × EndsWithin P (StepsTo P moves) n p
+  ends-some p (ends f) =
+      let after : (c : Colour) → (n : ℕ) × ((x : Step P) → Contains (moves c p) x → EndsWithin P (StepsTo P moves) n x.to) =
+      λ c. some-bound P (StepsTo P moves) (Step P) (λ x. x.to) (moves c p) (λ x h. ends-some x.to (f x.to (c, (x, h, refl)))) in
+      let (n, black) = after Black in
+      let (m, white) = after White in (
+        suc (max n m),
+        λ q (c, (x, h, to)). subst (EndsWithin P (StepsTo P moves) (max n m)) to
+            (elim c as (λ d. Contains (moves d p) x → EndsWithin P (StepsTo P moves) (max n m) x.to) [
+              | Black ↦ λ among. ends-more P (StepsTo P moves) n (max n m) x.to (omega arith) (black x among)
+              | White ↦ λ among. ends-more P (StepsTo P moves) m (max n m) x.to (omega arith) (white x among)
+            ] h),
+      )
+
+  all_end : (n : ℕ) (ps : List P) → ((p : P) → Contains ps p → EndsWithin P (StepsTo P moves) n p) → AllEnd P moves n ps
+  all_end n [] f = tt
+  all_end n (p ∷ ps) f = (f p (contains-head P p ps), all_end n ps (λ q h. f q (contains-tail P p q ps h)))
+
+  pub is_bounded : (ps : List P) → ((p : P) → Contains ps p → EachPlayEnds P moves p) → (n : ℕ) × AllEnd P moves n ps
+  is_bounded ps f =
+      let (n, e) = some-bound P (StepsTo P moves) P (λ p. p) ps (λ p h. ends-some p (f p h)) in
+      (n, all_end n ps e)
+
   -- Each play of the whole game ends.
-  module _ (most : ℕ) (few : TakesAtMost P moves most) where
-    -- no play in a part has more moves than its number says
-    abbrev pub Lasts : List ℕ → List P → Type 0
-    Lasts ns [] = Unit {0}
-    Lasts [] (p ∷ ps) = ⊥
-    Lasts (n ∷ ns) (p ∷ ps) = EndsWithin P (StepsTo P moves) n p × Lasts ns ps
 
-    pub all_end-lasts : (n : ℕ) (ps : List P) → AllEnd P moves n ps → (ns : List ℕ) × Lasts ns ps
-    all_end-lasts n [] e = ([], tt)
-    all_end-lasts n (p ∷ ps) e = let r = all_end-lasts n ps e.1 in (n ∷ r.0, (e.0, r.1))
+  -- no play in a part has more moves than its number says
+  abbrev Lasts : List ℕ → List P → Type 0
+  Lasts ns [] = Unit {0}
+  Lasts [] (p ∷ ps) = ⊥
+  Lasts (n ∷ ns) (p ∷ ps) = EndsWithin P (StepsTo P moves) n p × Lasts ns ps
 
-    pub step-lasts : (c : Colour) (ns : List ℕ) (ps qs : List P) (k : ℕ) → Lasts ns ps → StepIn P moves c ps qs k → (ms : List ℕ) × Lasts ms qs × (yields most ms + k < yields most ns)
-    step-lasts c ns [] qs k e h = absurd h
-    step-lasts c ns (p ∷ ps) [] k e h = absurd h
-    step-lasts c [] (p ∷ ps) (q ∷ qs) k e h = absurd e
-    step-lasts c (zero ∷ ns) (p ∷ ps) (q ∷ qs) k e (inl (m, r)) = absurd (e.0 q (c, (m.0, m.1, m.2)))
-    step-lasts c (suc n ∷ ns) (p ∷ ps) (q ∷ qs) k e (inl (m, r)) = (
-      n ∷ ns,
-      (e.0 q (c, (m.0, m.1, m.2)), subst (λ z. Lasts ns z) r e.1),
-      omega (arith, few c p m.0 m.1, m.3),
-    )
-    step-lasts c (n ∷ ns) (p ∷ ps) (q ∷ qs) k e (inr (r, h)) = let x = step-lasts c ns ps qs k e.1 h in (
-      n ∷ x.0,
-      (subst (λ z. EndsWithin P (StepsTo P moves) n z) r e.0, x.1),
-      omega (arith, x.2),
-    )
+  all_end-lasts : (n : ℕ) (ps : List P) → AllEnd P moves n ps → (ns : List ℕ) × Lasts ns ps
+  all_end-lasts n [] e = ([], tt)
+  all_end-lasts n (p ∷ ps) e = let r = all_end-lasts n ps e.1 in (n ∷ r.0, (e.0, r.1))
 
-    pub state-lasts : (ns : List ℕ) (s t : State P) → Lasts ns s.parts → Leads P moves s t → (ms : List ℕ) × Lasts ms t.parts × (yields most ms + funds t.purses < yields most ns + funds s.purses)
-    state-lasts ns s t e h = elim h.move [
-      | inl m ↦ (let x = step-lasts s.side ns s.parts t.parts m.0 e m.1 in (x.0, x.1, omega (arith, x.2, ap funds m.2, paid_in-funds s.side m.0 s.purses)))
-      | inr (inl m) ↦ (ns, subst (λ z. Lasts ns z) (sym m.1) e, omega (arith, purse-move-funds s.side s.purses t.purses (inl (m.0, m.2))))
-      | inr (inr m) ↦ (ns, subst (λ z. Lasts ns z) (sym m.1) e, omega (arith, purse-move-funds s.side s.purses t.purses (inr (m.0, m.2))))
-    ]
+  -- what n local moves can bring: each counts, with the stones that it takes
+  unfoldable yield : ℕ → P → ℕ
+  yield zero p = 0
+  yield (suc n) p =
+      sum_by (λ x. suc (x.taken + yield n x.to)) (moves Black p) + sum_by (λ x. suc (x.taken + yield n x.to)) (moves White p)
 
-    pub ends : (n : ℕ) (ns : List ℕ) (s : State P) → Lasts ns s.parts → yields most ns + funds s.purses ≤ n → EndsWithin (State P) (Leads P moves) n s
-    ends zero ns s e a = λ t h. (let r = state-lasts ns s t e h in absurd (omega (arith, r.2, a)))
-    ends (suc n) ns s e a = λ t h. (let r = state-lasts ns s t e h in ends n r.0 t r.1 (omega (arith, r.2, a)))
+  yield-step : (n : ℕ) (c : Colour) (p : P) (x : Step P) → Contains (moves c p) x → x.taken + yield n x.to < yield (suc n) p
+  unfolding yield
+  yield-step n c p x (i, lt, e) = by c lt e
+    where
+      brings : Step P → ℕ
+      brings y = suc (y.taken + yield n y.to)
+
+      one : (ys : List (Step P)) → i < length ys → get_or ys i x ≡ x → brings x ≤ sum_by brings ys
+      one ys lt e = subst (λ z. brings z ≤ sum_by brings ys) e (get_or-le-sum_by brings ys i x lt)
+
+      by : (d : Colour) → i < length (moves d p) → get_or (moves d p) i x ≡ x → x.taken + yield n x.to < yield (suc n) p
+      by Black lt e = omega (arith, one (moves Black p) lt e)
+      by White lt e = omega (arith, one (moves White p) lt e)
+
+  abbrev yields : List ℕ → List P → ℕ
+  yields ns [] = 0
+  yields [] (p ∷ ps) = 0
+  yields (n ∷ ns) (p ∷ ps) = yield n p + yields ns ps
+
+  step-lasts : (c : Colour) (ns : List ℕ) (ps qs : List P) (k : ℕ) → Lasts ns ps → StepIn P moves c ps qs k → (ms : List ℕ) × Lasts ms qs × (yields ms qs + k < yields ns ps)
+  step-lasts c ns [] qs k e h = absurd h
+  step-lasts c ns (p ∷ ps) [] k e h = absurd h
+  step-lasts c [] (p ∷ ps) (q ∷ qs) k e h = absurd e
+  step-lasts c (zero ∷ ns) (p ∷ ps) (q ∷ qs) k e (inl (m, r)) = absurd (e.0 q (c, (m.0, m.1, m.2)))
+  step-lasts c (suc n ∷ ns) (p ∷ ps) (q ∷ qs) k e (inl (m, r)) = (
+    n ∷ ns,
+    (e.0 q (c, (m.0, m.1, m.2)), subst (λ z. Lasts ns z) r e.1),
+    omega (arith, yield-step n c p m.0 m.1, ap (yield n) m.2, m.3, ap (yields ns) r),
+  )
+  step-lasts c (n ∷ ns) (p ∷ ps) (q ∷ qs) k e (inr (r, h)) = let x = step-lasts c ns ps qs k e.1 h in (
+    n ∷ x.0,
+    (subst (λ z. EndsWithin P (StepsTo P moves) n z) r e.0, x.1),
+    omega (arith, x.2, ap (yield n) r),
+  )
+
+  state-lasts : (ns : List ℕ) (s t : State P) → Lasts ns s.parts → Leads P moves s t
+      → (ms : List ℕ) × Lasts ms t.parts × (yields ms t.parts + funds t.purses < yields ns s.parts + funds s.purses)
+  state-lasts ns s t e h = elim h.move [
+    | inl m ↦ (let x = step-lasts s.side ns s.parts t.parts m.0 e m.1 in (x.0, x.1, omega (arith, x.2, ap funds m.2, paid_in-funds s.side m.0 s.purses)))
+    | inr (inl m) ↦ (ns, subst (λ z. Lasts ns z) (sym m.1) e, omega (arith, ap (yields ns) m.1, purse-move-funds s.side s.purses t.purses (inl (m.0, m.2))))
+    | inr (inr m) ↦ (ns, subst (λ z. Lasts ns z) (sym m.1) e, omega (arith, ap (yields ns) m.1, purse-move-funds s.side s.purses t.purses (inr (m.0, m.2))))
+  ]
+
+  lasts-ends : (n : ℕ) (ns : List ℕ) (s : State P) → Lasts ns s.parts → yields ns s.parts + funds s.purses ≤ n → EndsWithin (State P) (Leads P moves) n s
+  lasts-ends zero ns s e a = λ t h. (let r = state-lasts ns s t e h in absurd (omega (arith, r.2, a)))
+  lasts-ends (suc n) ns s e a = λ t h. (let r = state-lasts ns s t e h in lasts-ends n r.0 t r.1 (omega (arith, r.2, a)))
+
+  pub play-ends : (n : ℕ) (s : State P) → AllEnd P moves n s.parts → (b : ℕ) × EndsWithin (State P) (Leads P moves) b s
+  play-ends n s e =
+      let (ns, lasts) = all_end-lasts n s.parts e in
+      (yields ns s.parts + funds s.purses, lasts-ends (yields ns s.parts + funds s.purses) ns s lasts (omega arith))
 
   -- Who loses the whole game is the sign of the sum of the parts' trees, the purses and the token.
   module _ (n : ℕ) where
@@ -383,10 +447,10 @@ module _ (P : Type 0) (moves : Colour → P → List (Step P)) where
     mirrors : Mirrors (State P) (Leads P moves) (λ s. s.side) (state_tree P moves n) (λ s. AllEnd P moves n s.parts)
     mirrors = record { turn = λ s t f h. h.turn; fine = state-fine; moved = state-moved; met = state-met }
 
-    pub decomposes : (most : ℕ) (s : State P) → TakesAtMost P moves most → AllEnd P moves n s.parts → IsDecidedBy P moves (state_tree P moves n s) s
-    decomposes most s few f = let l = all_end-lasts most few n s.parts f in
-        at _ (decided (State P) (Leads P moves) (λ z. z.side) (state_tree P moves n) (λ z. AllEnd P moves n z.parts) mirrors
-        (yields most l.0 + funds s.purses) s (ends most few (yields most l.0 + funds s.purses) l.0 s l.1 (omega arith)) f)
+    pub decomposes : (s : State P) → AllEnd P moves n s.parts → IsDecidedBy P moves (state_tree P moves n s) s
+    decomposes s f =
+        let (b, e) = play-ends n s f in
+        at b (decided (State P) (Leads P moves) (λ z. z.side) (state_tree P moves n) (λ z. AllEnd P moves n z.parts) mirrors b s e f)
       where
         at : (b : ℕ) → Decided (State P) (Leads P moves) (λ z. z.side) (state_tree P moves n) (λ z. AllEnd P moves n z.parts) b s → IsDecidedBy P moves (state_tree P moves n s) s
         at b (lost g w) = record { has_winner = inr (b, w); loser = (λ h. g, λ h. (b, w)) }

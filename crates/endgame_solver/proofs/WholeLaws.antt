@@ -4,7 +4,6 @@ use Rattle.std.proofs.Common.{ℕ, zero, suc, ◌≡◌, ◌⊎◌, ◌↔◌, �
 use Rattle.std.proofs.lemmas.Bool.{cases_eq, cases_lt}
 use Rattle.std.proofs.lemmas.List.{ext_get_or, get_or_default}
 use Rattle.std.proofs.lemmas.List.Elements.{Contains-get_or}
-use Rattle.std.proofs.lemmas.List.Sums.{count_by-le-length}
 use Rattle.std.proofs.Math.Nat.{pow-le-pow_right}
 use Rattle.go_grid.specs.declared.grid.Cell.{Cell}
 use Rattle.go_grid.specs.declared.grid.Cell.TheVariants.{Empty}
@@ -37,17 +36,17 @@ use Rattle.short_games.proofs.SumLaws.{nought, nought-plus, plus-assoc, same-plu
 use Rattle.game_store.specs.Meaning.{pick}
 use Rattle.sum_outcome.specs.Players.{credit, gain, options, LosesGame}
 use Rattle.sum_outcome.proofs.PlayerLaws.{loses-same}
-use Rattle.local_play.specs.LocalPlay.{is_stone, IsLocalMove}
+use Rattle.local_play.specs.LocalPlay.{IsLocalMove}
 use Rattle.local_graph.specs.declared.cycle.CycleMove.{CycleMove}
 use Rattle.local_graph.specs.FiniteLocalPlay.{HasNoCycle}
 use Rattle.local_graph.specs.LocalGraph.{IsReachable}
 use Rattle.local_graph.proofs.PlayLemmas.{plays_long, plays_more}
 use Rattle.local_value.specs.Ending.{EndsWithin}
 use Rattle.local_value.specs.Laws.{MovesTo}
-use Rattle.local_value.specs.LocalGame.{Step, StepsTo, TakesAtMost, tree_within}
+use Rattle.local_value.specs.LocalGame.{Step, StepsTo, tree_within}
 use Rattle.local_value.specs.PositionTree.{IsTreeOf, IsValueOf, PlaysAreShort}
 use Rattle.local_value.proofs.TreeLaws.{cells_end, from_step, step_from, tree_as, trees-exist, short_plays}
-use Rattle.local_value.proofs.MoveLaws.{steps, step_out}
+use Rattle.local_value.proofs.MoveLaws.{steps}
 use Rattle.region_cut.specs.Cut.{AreRegionsOfPlay}
 use Rattle.region_cut.specs.LocalBoard.{HoldsPosition, IsLocal}
 use Rattle.region_cut.proofs.LocalBoardLemmas.{holds_start, only_region, other_kept, holds_after, placing_is_local, plays_locally, point_contested}
@@ -188,10 +187,10 @@ module _ (P : Type 0) (moves : Colour → P → List (Step P)) (InPart : ℕ →
         same s u w = λ i. with_parts u.parts (w.purses i) (w.turn i)
 
     -- a state of the whole game has a winner, and who loses is the sign of the sum
-    pub whole_decomposes : (most n : ℕ) (s : Whole) (u : State P) → TakesAtMost P moves most → AllEnd P moves n u.parts → Sees s u
+    pub whole_decomposes : (n : ℕ) (s : Whole) (u : State P) → AllEnd P moves n u.parts → Sees s u
         → (MoverWins Whole whole.Leads s ⊎ MoverLoses Whole whole.Leads s) × (MoverLoses Whole whole.Leads s ↔ LosesGame s.side (state_tree P moves n u))
-    whole_decomposes most n s u few end w =
-        let d = decomposes P moves n most u few end in
+    whole_decomposes n s u end w =
+        let d = decomposes P moves n u end in
         let back : Matches (State P) Whole (Leads P moves) whole.Leads (λ v t. Sees t v) =
         record { forth = λ v w t e l. bookkeeping.back t v w e l; back = λ v t r e l. bookkeeping.forth t r v e l } in (
           elim d.has_winner [
@@ -371,15 +370,6 @@ module _ (g : Board) (settled : IsSettled g) (regions : List Region) (are : AreR
     playable = playable;
   }
 
-  -- no step takes more stones than the largest region has points, and one
-  few_cells : TakesAtMost Position Moves (Most + 1)
-  unfolding moves_of
-  few_cells c q x among =
-      let (le, h) = limited-in Most (length q.cells) (cases_lt Most (length q.cells)) _ x among in
-      let y = step_out (region_at regions q.region).touch q.cells c Position (position_in q.region) x h in
-      let number = y.1.2 in
-      omega (arith, le, number, count_by-le-length is_stone q.cells, y.3)
-
   abbrev pub SeenAs : Whole → State Position → Type 0
   SeenAs s u = Sees Position Moves (IsPointOf regions) (IsHeld g regions) g settled (length regions) cell_play s u
 
@@ -484,8 +474,7 @@ module _ (g : Board) (settled : IsSettled g) (regions : List Region) (are : AreR
         → MoverLoses Whole whole.Leads t ↔ LosesGame t.side (total trees +ᵍ money_tree t.purses))
     decided t v w =
         let d = whole_decomposes Position Moves (IsPointOf regions) (IsHeld g regions) g settled (length regions) cell_play
-        (Most + 1) Depth t v few_cells
-        (all_end t.board 0 v.parts w.1.shown) w in (
+        Depth t v (all_end t.board 0 v.parts w.1.shown) w in (
           d.0,
           λ trees on.
               let sum = trees_total t.board 0 regions trees v.parts (λ j lt. ap (region_at regions) (omega arith)) on w.1.count w.1.shown in
@@ -503,7 +492,7 @@ module _ (g : Board) (settled : IsSettled g) (regions : List Region) (are : AreR
         let seen : SeenAs u (record { parts = v.parts; purses = u.purses; side = u.side }) =
         (keeps, record { count = w.1.count; shown = shown; purses = refl; turn = refl }) in
         let d = whole_decomposes Position Moves (IsPointOf regions) (IsHeld g regions) g settled (length regions) cell_play
-        (Most + 1) Depth u (record { parts = v.parts; purses = u.purses; side = u.side }) few_cells (all_end u.board 0 v.parts shown) seen in
+        Depth u (record { parts = v.parts; purses = u.purses; side = u.side }) (all_end u.board 0 v.parts shown) seen in
         let money = same-plus _ _ _ _ (same-refl (parts_tree Position Moves Depth v.parts)) (purses-balance u.purses) in
         (d.0, (λ x. loses-same u.side _ _ money (d.1.0 x), λ x. d.1.1 (loses-same u.side _ _ (same-sym _ _ money) x)))
 

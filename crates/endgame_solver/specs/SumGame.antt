@@ -86,6 +86,10 @@ module _ (P : Type 0) (moves : Colour → P → List (Step P)) where
   AllEnd n [] = Unit {0}
   AllEnd n (p ∷ ps) = EndsWithin P (StepsTo P moves) n p × AllEnd n ps
 
+  -- each play from the position ends, whichever player makes each move of it
+  pub data EachPlayEnds : P → Type 0 where
+    ends : {p : P} → ((q : P) → StepsTo P moves p q → EachPlayEnds q) → EachPlayEnds p
+
   -- the state has a winner, and the player to move loses exactly where the tree says so
   pub record IsDecidedBy (G : Tree) (s : State P) : Type 0 where
     pub has_winner : MoverWins (State P) Leads s ⊎ MoverLoses (State P) Leads s

@@ -1,16 +1,17 @@
 //! The laws: decomposition, that shapes keep values, that thresholds exist, and that a line of play loses nothing.
 
 ghost use Rattle.endgame_solver.specs.Decomposition.{WholeDecomposes};
-ghost use Rattle.endgame_solver.specs.Laws.{Decomposes, PursesAreBalance};
+ghost use Rattle.endgame_solver.specs.Laws.{Decomposes, PlayIsBounded, PursesAreBalance};
 ghost use Rattle.endgame_solver.specs.Bookkeeping.{PursesFollow, RegionsFollow};
 ghost use Rattle.endgame_solver.specs.PlayLine.{BestStoneLosesNothing, HasOneLine, LineLosesNothing, NoStoneIsBetter};
 ghost use Rattle.endgame_solver.specs.ShapeValues.{ShapesKeepValues};
 ghost use Rattle.endgame_solver.specs.Thresholds.{FirstMoveCostsAHalf, StonesServeEachKomi, ThresholdIsInSum, ThresholdsExist};
 
-/// Who loses is the sign of a sum (Müller 1999): of any game of several parts, none of which has a cycle, and of the whole
-/// game over the regions of play. It has no code.
-pub fn decomposition_laws()
-    ensures parts { Decomposes }
+/// Who loses is the sign of a sum (Müller 1999): of any game of several parts in which play ends, whatever type `P` their
+/// positions have, and of the whole game over the regions of play. It has no code.
+pub fn decomposition_laws<P>()
+    ensures parts { Decomposes P }
+    ensures bounded { PlayIsBounded P }
     ensures balance { PursesAreBalance }
     ensures whole { WholeDecomposes }
     ensures purses { PursesFollow }

@@ -3,7 +3,6 @@ use Rattle.std.proofs.Common.{ℕ, zero, suc, ◌+◌, ◌≡◌, ◌<◌, ◌�
 use Rattle.std.specs.List.{sum_by}
 use Rattle.std.proofs.lemmas.List.{length-map, get_or-map}
 use Rattle.std.proofs.lemmas.List.Sums.{get_or-le-sum_by}
-use Rattle.std.proofs.Math.Nat.{le_refl}
 use Rattle.go_grid.specs.declared.grid.Cell.{Cell}
 use Rattle.go_grid.specs.declared.grid.Colour.{Colour}
 use Rattle.go_grid.specs.Board.{Board}
@@ -35,12 +34,12 @@ use Rattle.endgame_solver.specs.Regions.{no_region, region_at}
 use Rattle.endgame_solver.specs.SumGame.{AllEnd, IsDecidedBy, Leads, State, parts_tree, purses_tree, state_tree}
 use Rattle.endgame_solver.specs.inner.Regions.{IsPointOf}
 use Rattle.endgame_solver.specs.inner.WholeParts.{AllShown}
-use Rattle.endgame_solver.proofs.PartsLaws.{all_end-lasts, decomposes, ends, loses-forth, wins-forth}
+use Rattle.endgame_solver.proofs.PartsLaws.{decomposes, loses-forth, play-ends, wins-forth}
 use Rattle.endgame_solver.proofs.WholeLaws.{IsHeld, Position, held_long, money_same, moves_of, one_cells, position_in, HoldsReached, SeenAs, seen_from_opening, seen_now}
 use Rattle.whole_budgets.specs.BudgetPlay.{Budgeted, LeadsWithin, WinsWithBudgets}
 use Rattle.whole_budgets.specs.BudgetSums.{AreBudgetTreesOn, AreSteadyTreesOn, BudgetsDecompose, ServesFor, SteadyDecides, WinsGame}
 use Rattle.whole_budgets.proofs.BudgetPlayLemmas.{budgets_win, greater_win, some_win, with}
-use Rattle.whole_budgets.proofs.SpotLemmas.{Spot, Stands, depth, local_of, moves_take, no_spot, spot_ends, spot_is, spot_tree}
+use Rattle.whole_budgets.proofs.SpotLemmas.{Spot, Stands, depth, local_of, no_spot, spot_ends, spot_is, spot_tree}
 use Rattle.whole_budgets.proofs.BudgetPartsLemmas.{IsSpotOn, Moves, Shows, forth, matches, matches_back, part}
 
 -- who wins one game wins an equal one
@@ -146,7 +145,7 @@ module _ (g : Board) (settled : IsSettled g) (regions : List Region) (are : AreR
       on_board = parts_on t u w
 
       is : IsDecidedBy Spot (Moves g settled regions are owner) G u
-      is = decomposes Spot (Moves g settled regions are owner) Deep (length g.cells + 1) u (moves_take regions owner (length g.cells)) (all_end t.board 0 u.parts on_board)
+      is = decomposes Spot (Moves g settled regions are owner) Deep u (all_end t.board 0 u.parts on_board)
 
       same : G ≡ᵍ (total trees +ᵍ money_tree t.purses)
       same =
@@ -197,10 +196,8 @@ module _ (g : Board) (settled : IsSettled g) (regions : List Region) (are : AreR
 
   play_ends : (t : Whole) (u : State Spot) → Shows g settled regions are owner (with t d) u → (n : ℕ) × EndsWithin Budgeted Play n (with t d)
   play_ends t u w =
-      let few = moves_take regions owner (length g.cells) in
-      let (ns, lasts) = all_end-lasts Spot (Moves g settled regions are owner) (length g.cells + 1) few Deep u.parts
-      (all_end t.board 0 u.parts (parts_on t u w)) in
-      (_, ends_by _ (with t d) u w (ends Spot (Moves g settled regions are owner) (length g.cells + 1) few _ ns u lasts (le_refl _)))
+      let (n, e) = play-ends Spot (Moves g settled regions are owner) Deep u (all_end t.board 0 u.parts (parts_on t u w)) in
+      (n, ends_by n (with t d) u w e)
 
 -- Each state that is seen as its regions' positions is seen as these with their budgets.
 module _ (g : Board) (regions : List Region) where

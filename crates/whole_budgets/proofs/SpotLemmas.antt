@@ -2,18 +2,16 @@
 use Rattle.std.proofs.Common.{ℕ, zero, suc, ◌+◌, ◌*◌, ◌^◌, ◌≡◌, ◌≢◌, ◌<◌, ◌≤◌, arith, inl, inr, refl, sym, ap, subst, List, [], ◌∷◌, length, get_or, Contains}
 use Rattle.std.proofs.lemmas.Bool.{cases_lt}
 use Rattle.std.proofs.lemmas.List.{ext_get_or}
-use Rattle.std.proofs.lemmas.List.Sums.{count_by-le-length}
 use Rattle.std.proofs.Math.Nat.{mul-le-mul_left, mul-le-mul_right, pow-le-pow_right}
 use Rattle.go_grid.specs.declared.grid.Cell.{Cell}
 use Rattle.go_grid.specs.declared.grid.Colour.{Colour}
 use Rattle.go_grid.specs.Region.{Region}
 use Rattle.go_grid.proofs.PlayLemmas.{long_after}
-use Rattle.local_play.specs.LocalPlay.{is_stone}
 use Rattle.short_games.specs.Tree.{Tree}
 use Rattle.short_games.specs.Order.{◌≡ᵍ◌}
 use Rattle.local_value.specs.BudgetTree.{Budgeted, IsBudgetStep, IsBudgetTree}
 use Rattle.local_value.specs.Ending.{EndsWithin}
-use Rattle.local_value.specs.LocalGame.{Step, StepsTo, TakesAtMost, tree_within}
+use Rattle.local_value.specs.LocalGame.{Step, StepsTo, tree_within}
 use Rattle.local_value.proofs.BudgetTreeLaws.{are_listed, budget_moves, budget_short, enough}
 use Rattle.local_value.proofs.MoveLaws.{contains-cases, contains-head, contains-tail}
 use Rattle.local_value.proofs.TreeLaws.{stands_end, stands_same}
@@ -131,12 +129,6 @@ module _ (regions : List Region) (owner : Colour) (b : ℕ) where
       let steps = steps_in k (budget_moves touch owner c p) in
       subst (λ xs. Contains xs (step_in k x)) (sym (limited-is b (length p.cells) (cases_lt b (length p.cells)) steps le))
       (steps_in-in k (budget_moves touch owner c p) x ((are_listed touch owner c p x).1 move))
-
-  -- no step takes more stones than there are places, and one
-  pub moves_take : TakesAtMost Spot Moves (b + 1)
-  moves_take c q z h =
-      let (le, (x, ((i, move, number), after), e)) = moves-out q.region c (local_of q) z h in
-      omega (arith, le, number, count_by-le-length is_stone q.cells, ap (λ y. y.taken) e)
 
   -- the spot stands for the position with the budget
   abbrev pub Stands : ℕ → Spot → Budgeted → Type 0
