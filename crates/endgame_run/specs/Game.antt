@@ -17,7 +17,7 @@ use Rattle.endgame_solver.specs.declared.limits.Limits.{Limits}
 use Rattle.play_session.specs.declared.end.SessionEnd.{SessionEnd}
 use Rattle.play_session.specs.declared.end.SessionEnd.TheVariants as end
 use Rattle.play_session.specs.Laws.{EndsWonKeeping, IsLineIn, KeepsWin, TakesBackNoKo}
-use Rattle.play_session.specs.Session.{Standing, Turns, IsSession, Waits, BreaksOff}
+use Rattle.play_session.specs.Session.{Standing, Turns, IsNextLine, IsSession, Waits, BreaksOff}
 use Rattle.endgame_run.specs.File.{TakesAtMost, most_of_game, told_of}
 use Rattle.endgame_run.specs.Found.{IsPositionOf}
 use Rattle.endgame_run.specs.Question.{IsAnswer}
@@ -123,14 +123,20 @@ pub record WinsFromHere (engine : Colour) (a : Standing) : Type 0 where
 abbrev pub WinsFromThere : Colour → EngineGame → List ℕ → Type 0
 WinsFromThere engine s bytes = (n : ℕ) (text : List ℕ) (a : Standing) → Turns engine n (game_beginning s bytes) text a → IsWinner a.game.state engine → WinsFromHere engine a
 
--- What was written of a game that the engine wins at its opening: turns, and what stands behind them. It wins from there, and no line
--- names the opponent as the winner.
+-- what is written behind turns is a front part of one line, or all of it: that of the next turn, of the end or of a fault
+abbrev pub IsLastLine : Colour → Standing → List ℕ → Type 0
+IsLastLine engine b last = (more : List ℕ)
+    × (IsNextLine engine b (last ++ more) ⊎ (((last ++ more) ≡ codes "fault cannot read\n") ⊎ ((last ++ more) ≡ codes "fault lines\n")))
+
+-- What was written of a game that the engine wins at its opening: its turns, and no more than a line behind them. It wins from there,
+-- and no line names the opponent as the winner.
 pub record IsWonGame (engine : Colour) (s : EngineGame) (bytes : List ℕ) (before now : Option (List ℕ)) : Type 0 where
   pub number : ℕ
   pub reached : Standing
   pub first : List ℕ
   pub last : List ℕ
   pub turns : Turns engine number (game_beginning s bytes) first reached
+  pub behind : IsLastLine engine reached last
   pub wins : WinsFromHere engine (game_beginning s bytes)
   pub written : now ≡ append_known before (first ++ last)
   pub unnamed : ¬ IsLineIn (winner_line (other engine)) (first ++ last)
