@@ -4,7 +4,7 @@ use game_calc::{CalcError, CalcFault, answer};
 use std::test::Fail;
 
 /// An expression and the value that is written of it.
-const VALUES: [(&[u8], &[u8]); 5] = [
+const VALUES: [(&[u8], &[u8]); 7] = [
     (
         b"^ + *",
         b"value {*,0|0}\nstops 0 0\nmean 0\ntemperature 0\nleft 0:0\nright 0:0\n",
@@ -24,6 +24,15 @@ const VALUES: [(&[u8], &[u8]); 5] = [
     (
         b"*3 + *5",
         b"value *6\nstops 0 0\nmean 0\ntemperature 0\nleft 0:0\nright 0:0\n",
+    ),
+    // two and four times {2|{1|*}}
+    (
+        b"{2|{1|*}} + {2|{1|*}}",
+        b"value {3|{2|2}}\nstops 3 2\nmean 5/2\ntemperature 1/2\nleft 0:3 1/2:5/2\nright 0:2 1/2:5/2\n",
+    ),
+    (
+        b"{2|{1|*}} + {2|{1|*}} + {2|{1|*}} + {2|{1|*}}",
+        b"value {5|5}\nstops 5 5\nmean 5\ntemperature 0\nleft 0:5\nright 0:5\n",
     ),
 ];
 

@@ -8,6 +8,8 @@ mod comparison_tests;
 #[cfg(test)]
 mod dyadic_tests;
 #[cfg(test)]
+mod id_tests;
+#[cfg(test)]
 mod order_tests;
 #[cfg(test)]
 mod plain_sum_tests;

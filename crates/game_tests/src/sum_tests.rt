@@ -17,7 +17,7 @@ use std::test::Fail;
 use sum_outcome::{MOST_ENTRIES, Search};
 
 /// The game `{0|0}`.
-fn star(store: &mut Store) -> Result<GameId, AllocError>
+pub(crate) fn star(store: &mut Store) -> Result<GameId, AllocError>
     ensures value { IfOk result (λ id. IsIdOf store.new the_star id) }
     ensures kept { Extends store.old store.new }
 {

@@ -14,7 +14,7 @@ use thermograph::{ThermoError, Thermograph, Wall, draw};
 const QUARTER: i128 = 1 << (EXPONENT - 2);
 
 /// The text of a game, and its stops in quarters.
-const STOPS: [(&str, i32, i32); 9] = [
+const STOPS: [(&str, i32, i32); 16] = [
     ("^", 0, 0),
     ("1/2", 2, 2),
     ("{2|1/2}", 8, 2),
@@ -24,6 +24,14 @@ const STOPS: [(&str, i32, i32); 9] = [
     ("{1|+-1}", 4, 4),
     ("{{3|0}|-1}", 0, -4),
     ("{{2|-1}|0}", -4, -4),
+    ("{4|{2|0}}", 16, 8),
+    ("{{4|3}|{1|0}}", 12, 4),
+    ("{{4|2}|0}", 8, 0),
+    ("{{5|1},{3|2}|0}", 8, 0),
+    ("{0|{0|-4}}", 0, 0),
+    // three ups, and up and star 2
+    ("{0|{0|{0|*}}}", 0, 0),
+    ("{*2,^,{*,0|0}|*3,^,{*,0|0}}", 0, 0),
 ];
 
 /// The text of a game, and its thermograph in quarters: its left and its right wall, its mean and its temperature.
