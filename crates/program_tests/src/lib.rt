@@ -42,4 +42,6 @@ mod tax_tests;
 #[cfg(test)]
 mod territory_tests;
 #[cfg(test)]
+mod turn_tests;
+#[cfg(test)]
 mod values_tests;

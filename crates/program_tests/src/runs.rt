@@ -3,7 +3,7 @@
 ghost use Rattle.std.specs.Prelude.{◌≡◌, ◌<◌, ◌≤◌};
 
 use crate::territory_tests::{TWICE, WALLS};
-use desk_io::{MemoryShelf, MemorySink, MemorySource, Sink};
+use desk_io::{MemoryShelf, MemorySink, MemorySource, Sink, Source};
 use endgame_run::{Status, run};
 use local_play::Steps;
 use std::alloc::{AllocError, Global};
@@ -95,11 +95,11 @@ pub(crate) fn shelf(alloc: Global, failing: u64) -> Result<MemoryShelf, AllocErr
 }
 
 /// What a run over these things ends with, whose steps a new ledger counts.
-fn counted<L: Ledger, K: Sink>(
+fn counted<L: Ledger, S: Source, K: Sink>(
     alloc: Global,
     words: &[&str],
     shelf: &mut MemoryShelf,
-    lines: &mut MemorySource,
+    lines: &mut S,
     out: &mut K,
     blank: Blank,
 ) -> Status
@@ -111,14 +111,14 @@ fn counted<L: Ledger, K: Sink>(
 }
 
 /// What a run over these things ends with.
-pub(crate) fn status_of<K: Sink>(
+pub(crate) fn status_of<S: Source, K: Sink>(
     alloc: Global,
     words: &[&str],
     shelf: &mut MemoryShelf,
-    lines: &mut MemorySource,
+    lines: &mut S,
     out: &mut K,
 ) -> Status {
-    counted::<Brand, K>(alloc, words, shelf, lines, out, Blank::new(1))
+    counted::<Brand, S, K>(alloc, words, shelf, lines, out, Blank::new(1))
 }
 
 /// What a run ends with and writes, with this file in the source, in pieces of a size, and room in the sink.
