@@ -7,7 +7,8 @@ use Rattle.whole_rules.specs.WholeGame.{Whole}
 use Rattle.endgame_solver.specs.Faults.{AreSound}
 use Rattle.endgame_solver.specs.Solved.{OpensAs}
 use Rattle.endgame_solver.specs.declared.limits.Limits.{Limits}
-use Rattle.report.specs.Analysis.{IsLineText, IsMarginText, IsMovesText}
+use Rattle.fault_words.specs.declared.naming.Naming.TheVariants.{Letters}
+use Rattle.report.specs.Analysis.{IsLineText, IsMarginText, IsMovesText, name_on}
 
 -- the regions of play of a position are all sound within the limits, and the text tells the thresholds of its opening
 pub record IsMargin (limits : Limits) (setup : Setup) (text : List ℕ) : Type 0 where
@@ -25,7 +26,7 @@ pub record IsMoves (limits : Limits) (setup : Setup) (text : List ℕ) : Type 0 
   pub are_regions : AreRegionsOfPlay setup.board regions
   pub sound : AreSound limits regions
   pub opening : OpensAs setup limits.tax state
-  pub is : IsMovesText state setup.komi_halves text
+  pub is : IsMovesText (name_on Letters state.board) state setup.komi_halves text
 
 -- the regions of play of a position are all sound within the limits, and the text tells the line of play of its opening
 pub record IsPlayLine (limits : Limits) (setup : Setup) (text : List ℕ) : Type 0 where
@@ -34,4 +35,4 @@ pub record IsPlayLine (limits : Limits) (setup : Setup) (text : List ℕ) : Type
   pub are_regions : AreRegionsOfPlay setup.board regions
   pub sound : AreSound limits regions
   pub opening : OpensAs setup limits.tax state
-  pub is : IsLineText regions state setup.komi_halves text
+  pub is : IsLineText (name_on Letters state.board) regions state setup.komi_halves text

@@ -19,6 +19,7 @@ use crate::question::Report;
 use crate::refusal::{cycle_text, points_text, positions_text};
 use crate::status::Status;
 use endgame_solver::{Limits, SolveError, Solved};
+use fault_words::Naming;
 use game_text::Text;
 use gd_words::Question;
 use go_grid::Size;
@@ -112,8 +113,8 @@ fn report_game(
         Question::Values => return report_values(alloc, solved),
         Question::Solve => solve_text(alloc, solved)?,
         Question::Margin => margin_text(alloc, solved, komi_halves)?,
-        Question::Moves => moves_text(alloc, solved, komi_halves)?,
-        Question::Line => line_text(alloc, solved, komi_halves)?,
+        Question::Moves => moves_text(alloc, Naming::Letters, solved, komi_halves)?,
+        Question::Line => line_text(alloc, Naming::Letters, solved, komi_halves)?,
         // Two need no regions, and the last is asked of games with cycles.
         Question::Safe | Question::Board | Question::WithCycles(_) => unreachable!(),
     };

@@ -235,6 +235,7 @@ impl Solved {
     /// with which the present state opens with the given komi.
     pub fn threshold(&mut self, komi_halves: i64, first: Colour) -> i64
         ensures threshold { IsThresholdFrom self.old.state komi_halves first [] result }
+        ensures small { unsigned_abs komi_halves ≤ 2 ^ 24 → unsigned_abs result ≤ 2 ^ 47 }
         ensures same { self.new ≡ self.old }
     {
         let present = Present {
@@ -254,6 +255,8 @@ impl Solved {
         ensures threshold { MatchOption result (¬ IsLegal self.old.state (Stone point))
             (λ K. IsLegal self.old.state (Stone point)
             × IsThresholdFrom self.old.state komi_halves self.old.state.side (point ∷ []) K) }
+        ensures small { unsigned_abs komi_halves ≤ 2 ^ 24
+            → IfSome result (λ K. unsigned_abs K ≤ 2 ^ 47) }
         ensures same { self.new ≡ self.old }
     {
         let present = Present {

@@ -27,34 +27,35 @@ thresholds_are s k b w b' w' before now after black white same same' first secon
       ∙ ap (λ z. before ++ (komi_line (codes "black first") z ++ komi_line (codes "white first") w)) same;
 }
 
-pub no_stone : (s : Whole) (k : ℤ) (p : ℕ) (text : List ℕ) → ¬ IsLegal s (Stone p) → HasStone s k p text text
-no_stone s k p text illegal = record { said = []; is = inl (illegal, refl); text = sym (append-nil text) }
+pub no_stone : (name : ℕ → List ℕ) (s : Whole) (k : ℤ) (p : ℕ) (text : List ℕ) → ¬ IsLegal s (Stone p) → HasStone name s k p text text
+no_stone name s k p text illegal = record { said = []; is = inl (illegal, refl); text = sym (append-nil text) }
 
-pub stone_is : (s : Whole) (k : ℤ) (p columns : ℕ) (wins : Bool) (K K' : ℤ) (before now : List ℕ) → IsLegal s (Stone p)
-    → IsTrue wins ↔ IsWinning s (Stone p) → IsThresholdFrom s k s.side (p ∷ []) K → K' ≡ K → columns ≡ s.board.columns
-    → now ≡ before ++ stone_line columns p wins K' → HasStone s k p before now
-stone_is s k p columns wins K K' before now legal winning threshold same on line = record {
-  said = stone_line s.board.columns p wins K;
+pub stone_is : (name name' : ℕ → List ℕ) (s : Whole) (k : ℤ) (p : ℕ) (wins : Bool) (K K' : ℤ) (before now : List ℕ) → IsLegal s (Stone p)
+    → IsTrue wins ↔ IsWinning s (Stone p) → IsThresholdFrom s k s.side (p ∷ []) K → K' ≡ K → name' ≡ name
+    → now ≡ before ++ stone_line name' p wins K' → HasStone name s k p before now
+stone_is name name' s k p wins K K' before now legal winning threshold same named line = record {
+  said = stone_line name p wins K;
   is = inr (legal, (wins, (K, winning, threshold, refl)));
-  text = line ∙ (λ i. before ++ stone_line (on i) p wins (same i));
+  text = line ∙ (λ i. before ++ stone_line (named i) p wins (same i));
 }
 
 -- one point more
-pub stones_more : (s : Whole) (k : ℤ) (n : ℕ) (a b c : List ℕ) → HasStones s k n a b → HasStone s k n b c → HasStones s k (n + 1) a c
-stones_more s k n a b c before last = record {
+pub stones_more : (name : ℕ → List ℕ) (s : Whole) (k : ℤ) (n : ℕ) (a b c : List ℕ) → HasStones name s k n a b → HasStone name s k n b c
+    → HasStones name s k (n + 1) a c
+stones_more name s k n a b c before last = record {
   said = before.said ++ last.said;
-  are = subst (λ m. AreStoneTexts s k m (before.said ++ last.said)) next both;
+  are = subst (λ m. AreStoneTexts name s k m (before.said ++ last.said)) next both;
   text = last.text ∙ ap (λ t. t ++ last.said) before.text ∙ append_assoc a before.said last.said;
 }
   where
     next : suc n ≡ n + 1
     next = omega arith
 
-    both : AreStoneTexts s k (suc n) (before.said ++ last.said)
+    both : AreStoneTexts name s k (suc n) (before.said ++ last.said)
     both = (before.said, last.said, before.are, last.is, refl)
 
-pub no_stones : (s : Whole) (k : ℤ) (text : List ℕ) → HasStones s k 0 text text
-no_stones s k text = record { said = []; are = refl; text = sym (append-nil text) }
+pub no_stones : (name : ℕ → List ℕ) (s : Whole) (k : ℤ) (text : List ℕ) → HasStones name s k 0 text text
+no_stones name s k text = record { said = []; are = refl; text = sym (append-nil text) }
 
 pub margin_is : (s : Whole) (k : ℤ) (a b c d : List ℕ) → a ≡ [] → HasOpening s k a b → HasThresholds s k b c → d ≡ c → IsMarginText s k d
 margin_is s k a b c d empty opening firsts same = record {
@@ -68,9 +69,9 @@ margin_is s k a b c d empty opening firsts same = record {
       (opening.text ∙ ap (λ t. t ++ opening_lines s.side k opening.winner) empty);
 }
 
-pub moves_is : (s : Whole) (k : ℤ) (a b c d e f : List ℕ) → a ≡ [] → HasOpening s k a b → HasStones s k (length s.board.cells) b c
-    → HasMove s Spend (codes "spend") c d → HasMove s Half (codes "half") d e → f ≡ e → IsMovesText s k f
-moves_is s k a b c d e f empty opening stones spend half same = record {
+pub moves_is : (name : ℕ → List ℕ) (s : Whole) (k : ℤ) (a b c d e f : List ℕ) → a ≡ [] → HasOpening s k a b → HasStones name s k (length s.board.cells) b c
+    → HasMove s Spend (codes "spend") c d → HasMove s Half (codes "half") d e → f ≡ e → IsMovesText name s k f
+moves_is name s k a b c d e f empty opening stones spend half same = record {
   winner = opening.winner;
   stones = stones.said;
   spend = spend.said;
@@ -93,22 +94,22 @@ threshold_is s k K K' before now threshold same line = record {
 }
 
 -- one stone more: what is left of the line stands behind it
-pub played_more : (columns : ℕ) (stones : List ℕ) (n : ℕ) (c d : Colour) (all now next : List ℕ) → n < length stones → d ≡ other c
-    → next ≡ now ++ played columns c (get_or stones n 0) → all ≡ now ++ all_played columns c (drop n stones)
-    → all ≡ next ++ all_played columns d (drop (n + 1) stones)
-played_more columns stones n c d all now next lt turn line is =
-    is ∙ ap (λ z. now ++ all_played columns c z) (drop_more stones n 0 lt)
-    ∙ sym (append_assoc now (played columns c (get_or stones n 0)) (all_played columns (other c) (drop (n + 1) stones)))
-    ∙ (λ i. sym line i ++ all_played columns (sym turn i) (drop (n + 1) stones))
+pub played_more : (name : ℕ → List ℕ) (stones : List ℕ) (n : ℕ) (c d : Colour) (all now next : List ℕ) → n < length stones → d ≡ other c
+    → next ≡ now ++ played name c (get_or stones n 0) → all ≡ now ++ all_played name c (drop n stones)
+    → all ≡ next ++ all_played name d (drop (n + 1) stones)
+played_more name stones n c d all now next lt turn line is =
+    is ∙ ap (λ z. now ++ all_played name c z) (drop_more stones n 0 lt)
+    ∙ sym (append_assoc now (played name c (get_or stones n 0)) (all_played name (other c) (drop (n + 1) stones)))
+    ∙ (λ i. sym line i ++ all_played name (sym turn i) (drop (n + 1) stones))
 
-pub played_end : (columns : ℕ) (stones : List ℕ) (n : ℕ) (c : Colour) (all now : List ℕ) → length stones ≤ n
-    → all ≡ now ++ all_played columns c (drop n stones) → now ≡ all
-played_end columns stones n c all now le is =
-    sym (is ∙ ap (λ z. now ++ all_played columns c z) (drop_all n stones le) ∙ append-nil now)
+pub played_end : (name : ℕ → List ℕ) (stones : List ℕ) (n : ℕ) (c : Colour) (all now : List ℕ) → length stones ≤ n
+    → all ≡ now ++ all_played name c (drop n stones) → now ≡ all
+played_end name stones n c all now le is =
+    sym (is ∙ ap (λ z. now ++ all_played name c z) (drop_all n stones le) ∙ append-nil now)
 
-pub line_is : (regions : List Region) (s : Whole) (k : ℤ) (a b c d e : List ℕ) → a ≡ [] → HasOpening s k a b → HasThreshold s k b c
-    → HasLine regions s c d → e ≡ d → IsLineText regions s k e
-line_is regions s k a b c d e empty opening threshold line same = record {
+pub line_is : (name : ℕ → List ℕ) (regions : List Region) (s : Whole) (k : ℤ) (a b c d e : List ℕ) → a ≡ [] → HasOpening s k a b → HasThreshold s k b c
+    → HasLine name regions s c d → e ≡ d → IsLineText name regions s k e
+line_is name regions s k a b c d e empty opening threshold line same = record {
   winner = opening.winner;
   threshold = threshold.threshold;
   stones = line.stones;
@@ -123,4 +124,4 @@ line_is regions s k a b c d e empty opening threshold line same = record {
     komi = komi_line (codes "threshold") threshold.threshold
 
     stones : List ℕ
-    stones = stones_line s.board.columns s.side line.stones
+    stones = stones_line name s.side line.stones

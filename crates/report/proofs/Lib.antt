@@ -8,3 +8,5 @@ pub mod ChainLaws
 pub mod TrialLaws
 pub mod AnalysisLaws
 pub mod CycleAnalysisLaws
+pub mod TopStonesLaws
+pub mod ScoreLaws

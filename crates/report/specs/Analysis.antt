@@ -1,18 +1,23 @@
--- The texts of `margin`, `moves` and `line`.
+-- The texts of `margin`, `moves` and `line`, where points are named by `name`.
 use Rattle.std.specs.Prelude.{ℕ, zero, suc, ℤ, ◌≡◌, ◌⊎◌, ◌↔◌, ◌++◌, List, [], ◌∷◌, length, Bool, true, false, IsTrue, codes, decimal}
 use Rattle.go_grid.specs.declared.grid.Colour.{Colour}
 use Rattle.go_grid.specs.declared.grid.Colour.TheVariants.{Black, White}
-use Rattle.go_grid.specs.Board.{other}
-use Rattle.go_grid.specs.Name.{point_name}
+use Rattle.go_grid.specs.Board.{Board, other}
 use Rattle.go_grid.specs.Region.{Region}
 use Rattle.whole_rules.specs.declared.states.Move.{Move}
 use Rattle.whole_rules.specs.declared.states.Move.TheVariants.{Stone, Spend, Half}
 use Rattle.whole_rules.specs.FirstWinningMove.{IsWinner, IsWinning}
 use Rattle.whole_rules.specs.WholeGame.{Whole, IsLegal}
 use Rattle.board_words.specs.Words.{colour_word, winner_line, word_line}
+use Rattle.fault_words.specs.declared.naming.Naming.{Naming}
+use Rattle.fault_words.specs.Naming.{name_by}
 use Rattle.endgame_solver.specs.PlayLine.{IsLineFrom}
 use Rattle.endgame_solver.specs.Thresholds.{IsThresholdFrom}
 use Rattle.report.specs.Komi.{komi_line}
+
+-- the name of a point of the board
+abbrev pub name_on : Naming → Board → ℕ → List ℕ
+name_on naming g = name_by naming g.columns g.rows
 
 -- the lines on the side to move, the komi and the winner
 abbrev pub opening_lines : Colour → ℤ → Colour → List ℕ
@@ -38,19 +43,20 @@ outcome_word true = codes "wins"
 outcome_word false = codes "loses"
 
 -- the line of a stone: its point, whether it wins, and its threshold
-unfoldable pub stone_line : ℕ → ℕ → Bool → ℤ → List ℕ
-stone_line columns p wins K = codes "stone " ++ (point_name columns p ++ (codes " " ++ komi_line (outcome_word wins) K))
+unfoldable pub stone_line : (ℕ → List ℕ) → ℕ → Bool → ℤ → List ℕ
+stone_line name p wins K = codes "stone " ++ (name p ++ (codes " " ++ komi_line (outcome_word wins) K))
 
 -- what is said of a stone of the side to move: a line where it is legal, and else nothing
-abbrev pub IsStoneText : Whole → ℤ → ℕ → List ℕ → Type 0
-IsStoneText s k p text = (¬ IsLegal s (Stone p) × (text ≡ []))
+abbrev pub IsStoneText : (ℕ → List ℕ) → Whole → ℤ → ℕ → List ℕ → Type 0
+IsStoneText name s k p text = (¬ IsLegal s (Stone p) × (text ≡ []))
     ⊎ (IsLegal s (Stone p) × ((wins : Bool) × ((K : ℤ) × (IsTrue wins ↔ IsWinning s (Stone p)) × IsThresholdFrom s k s.side (p ∷ []) K
-    × (text ≡ stone_line s.board.columns p wins K))))
+    × (text ≡ stone_line name p wins K))))
 
 -- what is said of the stones at the first n points, in their order
-abbrev pub AreStoneTexts : Whole → ℤ → ℕ → List ℕ → Type 0
-AreStoneTexts s k zero text = text ≡ []
-AreStoneTexts s k (suc n) text = (before last : List ℕ) × AreStoneTexts s k n before × IsStoneText s k n last × (text ≡ before ++ last)
+abbrev pub AreStoneTexts : (ℕ → List ℕ) → Whole → ℤ → ℕ → List ℕ → Type 0
+AreStoneTexts name s k zero text = text ≡ []
+AreStoneTexts name s k (suc n) text =
+    (before last : List ℕ) × AreStoneTexts name s k n before × IsStoneText name s k n last × (text ≡ before ++ last)
 
 -- what is said of a move that is no stone: a line where it is legal, and else nothing
 abbrev pub IsMoveText : Whole → Move → List ℕ → List ℕ → Type 0
@@ -58,36 +64,36 @@ IsMoveText s m label text = (¬ IsLegal s m × (text ≡ []))
     ⊎ (IsLegal s m × ((wins : Bool) × (IsTrue wins ↔ IsWinning s m) × (text ≡ word_line label (outcome_word wins))))
 
 -- the text of `moves` for a state that opens with this komi
-pub record IsMovesText (s : Whole) (k : ℤ) (text : List ℕ) : Type 0 where
+pub record IsMovesText (name : ℕ → List ℕ) (s : Whole) (k : ℤ) (text : List ℕ) : Type 0 where
   pub winner : Colour
   pub stones : List ℕ
   pub spend : List ℕ
   pub half : List ℕ
   pub wins : IsWinner s winner
-  pub each_stone : AreStoneTexts s k (length s.board.cells) stones
+  pub each_stone : AreStoneTexts name s k (length s.board.cells) stones
   pub of_spend : IsMoveText s Spend (codes "spend") spend
   pub of_half : IsMoveText s Half (codes "half") half
   pub is : text ≡ opening_lines s.side k winner ++ (stones ++ (spend ++ half))
 
 -- a stone of a line, behind a blank
-unfoldable pub played : ℕ → Colour → ℕ → List ℕ
-played columns c p = codes " " ++ (colour_word c ++ (codes ":" ++ point_name columns p))
+unfoldable pub played : (ℕ → List ℕ) → Colour → ℕ → List ℕ
+played name c p = codes " " ++ (colour_word c ++ (codes ":" ++ name p))
 
 -- the stones of a line, of which this player has the first; the colours alternate
-abbrev pub all_played : ℕ → Colour → List ℕ → List ℕ
-all_played columns c [] = []
-all_played columns c (p ∷ ps) = played columns c p ++ all_played columns (other c) ps
+abbrev pub all_played : (ℕ → List ℕ) → Colour → List ℕ → List ℕ
+all_played name c [] = []
+all_played name c (p ∷ ps) = played name c p ++ all_played name (other c) ps
 
 -- how many stones a line has, and each of them
-unfoldable pub stones_line : ℕ → Colour → List ℕ → List ℕ
-stones_line columns c ps = codes "line " ++ (decimal (length ps) ++ (all_played columns c ps ++ codes "\n"))
+unfoldable pub stones_line : (ℕ → List ℕ) → Colour → List ℕ → List ℕ
+stones_line name c ps = codes "line " ++ (decimal (length ps) ++ (all_played name c ps ++ codes "\n"))
 
 -- the text of `line` for a state that opens with this komi, and whose regions of play these are
-pub record IsLineText (regions : List Region) (s : Whole) (k : ℤ) (text : List ℕ) : Type 0 where
+pub record IsLineText (name : ℕ → List ℕ) (regions : List Region) (s : Whole) (k : ℤ) (text : List ℕ) : Type 0 where
   pub winner : Colour
   pub threshold : ℤ
   pub stones : List ℕ
   pub wins : IsWinner s winner
   pub mover_first : IsThresholdFrom s k s.side [] threshold
   pub line : IsLineFrom regions s k stones
-  pub is : text ≡ opening_lines s.side k winner ++ (komi_line (codes "threshold") threshold ++ stones_line s.board.columns s.side stones)
+  pub is : text ≡ opening_lines s.side k winner ++ (komi_line (codes "threshold") threshold ++ stones_line name s.side stones)

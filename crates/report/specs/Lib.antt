@@ -10,4 +10,6 @@ pub mod Komi
 pub mod Analysis
 pub mod CycleAnalysis
 pub mod BoardText
+pub mod Score
+pub mod TopStones
 pub mod inner

@@ -7,3 +7,4 @@ pub mod CycleSolution
 pub mod Trial
 pub mod Values
 pub mod CycleValues
+pub mod TopStones

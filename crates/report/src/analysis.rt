@@ -1,12 +1,14 @@
 //! The texts of `margin` and `moves`.
 
 ghost use Rattle.std.specs.Prelude.{◌≡◌, ◌<◌, ◌*◌, ◌++◌, OnOk, IfOk, length, string_bytes};
-ghost use Rattle.report.specs.Analysis.{IsMarginText, IsMovesText, opening_lines, outcome_word, stone_line};
+ghost use Rattle.fault_words.specs.Naming.{name_by};
+ghost use Rattle.report.specs.Analysis.{IsMarginText, IsMovesText, name_on, opening_lines, outcome_word, stone_line};
 ghost use Rattle.report.specs.inner.Analysis.{HasMove, HasOpening, HasStone, HasStones, HasThresholds};
 
 use crate::komi::write_komi;
-use board_words::{colour_word, write_name, write_words};
+use board_words::{colour_word, write_words};
 use endgame_solver::Solved;
+use fault_words::{Naming, write_point_name};
 use game_text::Text;
 use go_grid::{Colour, Point, Size};
 use std::alloc::{AllocError, Global};
@@ -71,7 +73,9 @@ fn outcome_word(wins: bool) -> &'static str
 /// Appends the line of a stone.
 #[tactic(auto, using(std::proofs::Common::append_assoc), unfolding(crate::specs::Analysis::stone_line))]
 fn write_stone_line(
+    alloc: Global,
     text: &mut String,
+    naming: Naming,
     size: Size,
     point: Point,
     wins: bool,
@@ -79,24 +83,27 @@ fn write_stone_line(
 ) -> Result<(), AllocError>
     requires { point < size.columns * size.rows }
     ensures { OnOk result (string_bytes text.new
-        ≡ string_bytes text.old ++ stone_line size.columns point wins threshold) }
+        ≡ string_bytes text.old ++ stone_line
+        (name_by naming size.columns size.rows) point wins threshold) }
 {
     text.push_str("stone ")?;
-    write_name(text, size, point)?;
+    write_point_name(alloc, text, naming, size, point)?;
     text.push_str(" ")?;
     write_komi(text, outcome_word(wins), threshold)
 }
 
 /// Appends the line of a stone of the side to move, or nothing where the stone is illegal.
 fn write_stone(
+    alloc: Global,
     text: &mut String,
+    naming: Naming,
     solved: &mut Solved,
     komi_halves: i64,
     point: Point,
 ) -> Result<(), AllocError>
     requires { point < length solved.old.state.board.cells }
-    ensures stone { OnOk result (HasStone solved.old.state komi_halves point
-        (string_bytes text.old) (string_bytes text.new)) }
+    ensures stone { OnOk result (HasStone (name_on naming solved.old.state.board)
+        solved.old.state komi_halves point (string_bytes text.old) (string_bytes text.new)) }
     ensures same { solved.new ≡ solved.old }
 {
     let size = solved.whole().board().size();
@@ -106,18 +113,25 @@ fn write_stone(
     let Some(wins) = solved.wins(Move::Stone(point)) else {
         return Ok(());
     };
-    write_stone_line(text, size, point, wins, threshold)?;
+    write_stone_line(alloc, text, naming, size, point, wins, threshold)?;
     Ok(())
 }
 
 /// Appends the lines of the legal stones, by point.
-fn write_stones(text: &mut String, solved: &mut Solved, komi_halves: i64) -> Result<(), AllocError>
-    ensures stones { OnOk result (HasStones solved.old.state komi_halves
-        (length solved.old.state.board.cells) (string_bytes text.old) (string_bytes text.new)) }
+fn write_stones(
+    alloc: Global,
+    text: &mut String,
+    naming: Naming,
+    solved: &mut Solved,
+    komi_halves: i64,
+) -> Result<(), AllocError>
+    ensures stones { OnOk result (HasStones (name_on naming solved.old.state.board)
+        solved.old.state komi_halves (length solved.old.state.board.cells)
+        (string_bytes text.old) (string_bytes text.new)) }
     ensures same { solved.new ≡ solved.old }
 {
     'writing: for number in 0..solved.whole().board().size().area() {
-        write_stone(text, solved, komi_halves, Point(number))?;
+        write_stone(alloc, text, naming, solved, komi_halves, Point(number))?;
     }
     Ok(())
 }
@@ -152,13 +166,19 @@ pub fn margin_text(alloc: Global, solved: &mut Solved, komi_halves: i64) -> Resu
 }
 
 /// The text of `moves` for a solved game that opens with this komi in half-points.
-pub fn moves_text(alloc: Global, solved: &mut Solved, komi_halves: i64) -> Result<Text, AllocError>
-    ensures text { IfOk result (λ text. IsMovesText solved.old.state komi_halves text) }
+pub fn moves_text(
+    alloc: Global,
+    naming: Naming,
+    solved: &mut Solved,
+    komi_halves: i64,
+) -> Result<Text, AllocError>
+    ensures text { IfOk result (λ text. IsMovesText
+        (name_on naming solved.old.state.board) solved.old.state komi_halves text) }
     ensures same { solved.new ≡ solved.old }
 {
     let mut text = String::new(alloc);
     write_winner(&mut text, solved, komi_halves)?;
-    write_stones(&mut text, solved, komi_halves)?;
+    write_stones(alloc, &mut text, naming, solved, komi_halves)?;
     write_other(&mut text, solved, Move::Spend, "spend")?;
     write_other(&mut text, solved, Move::Half, "half")?;
     Ok(Text::from(text))

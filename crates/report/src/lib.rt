@@ -10,7 +10,9 @@ mod cycle_values;
 mod komi;
 mod play_line;
 mod safety;
+mod score;
 mod solution;
+mod top_stones;
 mod trial;
 mod values;
 
@@ -22,6 +24,8 @@ pub use cycle_solution::cycle_solve_text;
 pub use cycle_values::cycle_values_text;
 pub use play_line::line_text;
 pub use safety::{CountedLine, safe_text};
+pub use score::{Score, score_of};
 pub use solution::solve_text;
+pub use top_stones::top_stones_text;
 pub use trial::trial_text;
 pub use values::{ValuesError, values_text};

@@ -16,7 +16,8 @@ use Rattle.engine_player.specs.Opening.{OpensGame}
 use Rattle.endgame_solver.specs.declared.limits.Limits.{Limits}
 use Rattle.gtp_words.specs.declared.end.GtpEnd.{GtpEnd}
 use Rattle.gtp_words.specs.declared.end.GtpEnd.TheVariants as end
-use Rattle.report.specs.Analysis.{IsLineText, IsMarginText, IsMovesText}
+use Rattle.fault_words.specs.declared.naming.Naming.TheVariants.{Letters}
+use Rattle.report.specs.Analysis.{IsLineText, IsMarginText, IsMovesText, name_on}
 use Rattle.report.specs.CycleValues.{IsCycleValuesText, IsFirstCycleUnshown}
 use Rattle.report.specs.Solution.{IsSolveText}
 use Rattle.report.specs.Values.{IsFirstUnshown, IsValuesText}
@@ -62,8 +63,8 @@ IsValuesReport game s text = ⊥
 abbrev pub IsGameReport : Question → ℤ → Solved → Status → List ℕ → Type 0
 IsGameReport question.Solve k game s text = (s ≡ Done) × IsSolveText game text
 IsGameReport question.Margin k game s text = (s ≡ Done) × IsMarginText game.state k text
-IsGameReport question.Moves k game s text = (s ≡ Done) × IsMovesText game.state k text
-IsGameReport question.Line k game s text = (s ≡ Done) × IsLineText game.regions game.state k text
+IsGameReport question.Moves k game s text = (s ≡ Done) × IsMovesText (name_on Letters game.state.board) game.state k text
+IsGameReport question.Line k game s text = (s ≡ Done) × IsLineText (name_on Letters game.state.board) game.regions game.state k text
 IsGameReport question.Values k game s text = IsValuesReport game s text
 IsGameReport q k game s text = ⊥
 

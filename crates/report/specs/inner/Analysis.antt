@@ -26,15 +26,15 @@ pub record HasThresholds (s : Whole) (k : ℤ) (before now : List ℕ) : Type 0 
   pub text : now ≡ before ++ first_lines black white
 
 -- behind the text stands what is said of a stone
-pub record HasStone (s : Whole) (k : ℤ) (p : ℕ) (before now : List ℕ) : Type 0 where
+pub record HasStone (name : ℕ → List ℕ) (s : Whole) (k : ℤ) (p : ℕ) (before now : List ℕ) : Type 0 where
   pub said : List ℕ
-  pub is : IsStoneText s k p said
+  pub is : IsStoneText name s k p said
   pub text : now ≡ before ++ said
 
 -- behind the text stands what is said of the stones at the first n points
-pub record HasStones (s : Whole) (k : ℤ) (n : ℕ) (before now : List ℕ) : Type 0 where
+pub record HasStones (name : ℕ → List ℕ) (s : Whole) (k : ℤ) (n : ℕ) (before now : List ℕ) : Type 0 where
   pub said : List ℕ
-  pub are : AreStoneTexts s k n said
+  pub are : AreStoneTexts name s k n said
   pub text : now ≡ before ++ said
 
 -- behind the text stands what is said of a move that is no stone
@@ -50,7 +50,7 @@ pub record HasThreshold (s : Whole) (k : ℤ) (before now : List ℕ) : Type 0 w
   pub text : now ≡ before ++ komi_line (codes "threshold") threshold
 
 -- behind the text stands the line of play, whatever the komi
-pub record HasLine (regions : List Region) (s : Whole) (before now : List ℕ) : Type 0 where
+pub record HasLine (name : ℕ → List ℕ) (regions : List Region) (s : Whole) (before now : List ℕ) : Type 0 where
   pub stones : List ℕ
   pub line : (k : ℤ) → IsLineFrom regions s k stones
-  pub text : now ≡ before ++ stones_line s.board.columns s.side stones
+  pub text : now ≡ before ++ stones_line name s.side stones

@@ -2,6 +2,7 @@ use mir.Syntax.{w64}
 use Rattle.std.proofs.Common.{◌∙◌, codes, length, string_bytes, subst}
 use Rattle.std.proofs.lemmas.Int.{to_z-of_z}
 use Rattle.whole_rules.specs.declared.states.Move.TheVariants.{Half, Spend}
+use Rattle.report.specs.Analysis.{name_on}
 use Rattle.report.specs.inner.Analysis.{HasMove, HasOpening, HasStones}
 use Rattle.report.proofs.AnalysisLaws.{moves_is}
 use Rattle.report.proofs.analysis.moves_text.Goals as goal
@@ -17,8 +18,8 @@ returns-clause-text c =
     let first = c.in_ok-write_winner.ensures.same in
     let second = c.in_ok-write_stones.ensures.same ∙ first in
     let third = c.in_ok-write_other.ensures.same ∙ second in
-    moves_is c.args.solved.now.state c.args.komi_halves a b d e f c.from.result c.new-text.ensures.bytes
+    moves_is (name_on c.args.naming c.args.solved.now.state.board) c.args.solved.now.state c.args.komi_halves a b d e f c.from.result c.new-text.ensures.bytes
     (subst (λ k. HasOpening c.args.solved.now.state k a b) komi c.in_ok-write_winner.ensures.opening)
-    (subst (λ T. T) (λ i. HasStones (first i).state (komi i) (length (first i).state.board.cells) b d) c.in_ok-write_stones.ensures.stones)
+    (subst (λ T. T) (λ i. HasStones (name_on c.args.naming (first i).state.board) (first i).state (komi i) (length (first i).state.board.cells) b d) c.in_ok-write_stones.ensures.stones)
     (subst (λ v. HasMove v.state Spend (codes "spend") d e) second c.in_ok-write_other.ensures.other)
     (subst (λ v. HasMove v.state Half (codes "half") e f) third c.in_ok-write_other-2.ensures.other) c.from.ensures
