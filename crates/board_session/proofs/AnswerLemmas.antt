@@ -72,7 +72,7 @@ module _ {E : Type 0} (limits : BoardLimits) (loads : Loads) (s u : BoardState) 
   plain_obeyed files faults id order (Err e) h = tt
 
   pub generated_obeyed : (files : Option Files) (faults : ℕ) (id : List ℕ) (order : BoardOrder) (c : Colour) → order ≡ genmove c → (result : Result (List ℕ) E)
-      → IfOk result (λ reply. IsGenerated (game_limits limits) c id s reply u)
+      → IfOk result (λ reply. IsGenerated limits.cycles (game_limits limits) c id s reply u)
       → IfOk result (λ reply. IsObeyed files faults faults id order a reply (record { limits = limits; state = u; loads = loads }))
   generated_obeyed files faults id order c asked (Ok reply) (said, generates, text) =
       subst (λ v. IsObeyed files faults faults id order v reply (record { limits = limits; state = u; loads = loads })) is
@@ -81,7 +81,7 @@ module _ {E : Type 0} (limits : BoardLimits) (loads : Loads) (s u : BoardState) 
   generated_obeyed files faults id order c asked (Err e) h = tt
 
   pub suggested_obeyed : (files : Option Files) (faults : ℕ) (id : List ℕ) (order : BoardOrder) (c : Colour) → order ≡ reg_genmove c → (result : Result (List ℕ) E)
-      → IfOk result (λ reply. IsSuggested (game_limits limits) c id s reply) → IfOk result (λ reply. IsObeyed files faults faults id order a reply a)
+      → IfOk result (λ reply. IsSuggested limits.cycles (game_limits limits) c id s reply) → IfOk result (λ reply. IsObeyed files faults faults id order a reply a)
   suggested_obeyed files faults id order c asked (Ok reply) (said, suggests, text) =
       subst (λ v. IsObeyed files faults faults id order v reply v) is
       (subst (λ o. IsObeyed files faults faults id o (record { limits = limits; state = s; loads = loads }) reply (record { limits = limits; state = s; loads = loads })) (sym asked)

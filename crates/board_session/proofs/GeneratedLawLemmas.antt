@@ -1,182 +1,58 @@
 -- What holds of moves that a session generates.
-use Rattle.std.proofs.Common.{◌≡◌, ◌≢◌, ◌≤◌, ◌+◌, ◌-◌, ◌/◌, ◌%◌, ◌↔◌, ◌⊎◌, ℕ, ℤ, zero, suc, pos, negsuc, ◌+ℤ◌, ◌-ℤ◌, nat_eq, cond, Bool, List, arith, inl, inr, refl, sym, ap, ◌∙◌, subst, Err}
-use Rattle.std.proofs.lemmas.Bool.{cases_eq}
-use Rattle.std.proofs.lemmas.Int.{ints}
+use Rattle.std.proofs.Common.{◌≡◌, ◌-◌, ℕ, ℤ, zero, suc, List, arith, inl, inr, refl, sym, ap, ◌∙◌, subst, Err}
 use Rattle.std.proofs.lemmas.List.Elements.{Contains-get_or}
 use Rattle.go_grid.specs.Board.{DeclaresNothing, other}
 use Rattle.go_grid.specs.Chain.{IsSettled}
-use Rattle.go_grid.specs.Marks.{IsMarked}
 use Rattle.go_grid.specs.declared.grid.Colour.{Colour}
-use Rattle.go_grid.specs.declared.grid.Colour.TheVariants.{Black, White}
 use Rattle.go_grid.specs.Region.{Region}
 use Rattle.region_cut.specs.Cut.{AreRegionsOfPlay}
 use Rattle.gtp_words.specs.Vertices.{vertex_text}
 use Rattle.sgf_go.specs.declared.settings.Setup.{Setup}
-use Rattle.whole_rules.specs.declared.money.Purses.{Purses}
-use Rattle.whole_rules.specs.declared.money.Token.{Token}
 use Rattle.whole_rules.specs.declared.money.Token.TheVariants as token
 use Rattle.whole_rules.specs.declared.states.Move.{Move}
 use Rattle.whole_rules.specs.declared.states.Move.TheVariants.{Stone, Spend, Half}
 use Rattle.whole_rules.specs.FirstWinningMove.{IsWinning}
-use Rattle.whole_rules.specs.Opening.{komi_points, komi_token}
-use Rattle.whole_rules.specs.OpeningWith.{Ground}
-use Rattle.whole_rules.specs.PlainRecursion.{LosesWithin, MoverWins, WinsWithin}
-use Rattle.whole_rules.specs.Purses.{halved, paid_out, purse}
+use Rattle.whole_rules.specs.PlainRecursion.{MoverWins, WinsWithin}
 use Rattle.whole_rules.specs.WholeGame.{IsMove, Leads, Whole}
-use Rattle.whole_rules.proofs.OpeningLaws.{beside_komi}
 use Rattle.endgame_solver.specs.declared.limits.Limits.{Limits}
 use Rattle.endgame_solver.specs.declared.faults.SolveError.{SolveError}
 use Rattle.endgame_solver.specs.declared.faults.SolveError.TheVariants.{Points, Positions, Cycle, Form, Memory}
 use Rattle.endgame_solver.specs.Faults.{AreRefused, AreSound}
 use Rattle.endgame_solver.specs.Regions.{no_region, region_at}
-use Rattle.endgame_solver.specs.Solved.{Begun, Chooses, HasMove, IsPlayable}
+use Rattle.endgame_solver.specs.Solved.{Begun, Chooses, HasMove}
 use Rattle.endgame_solver.proofs.BeginLaws.{one_regions}
 use Rattle.fault_words.specs.FaultWords.{AreFaultWords}
 use Rattle.board_session.specs.declared.position.BoardMove.TheVariants as made
 use Rattle.board_session.specs.declared.position.Position.{Position}
 use Rattle.board_session.specs.GeneratedLaws.{BoardsStaySettled, GameGoesOn, OneKindIsTold, OpensIn, WinIsKept}
-use Rattle.board_session.specs.Generating.{OpensLess, OpensNone, chosen, resigned, unopened, PayFor, after_passes, komi_halved, less_passes, setup_of}
+use Rattle.board_session.specs.Generating.{OpensLess, OpensNone, chosen, resigned, unopened, PayFor, komi_halved, setup_of}
 use Rattle.board_session.specs.States.{present}
 use Rattle.board_session.specs.Tallies.{Tally, grown}
 use Rattle.board_session.proofs.GeneratingLemmas.{chosen_legal}
 use Rattle.board_session.proofs.KeptLemmas.{after_push}
+use Rattle.board_session.proofs.OpenedLemmas.{OpensSo, halved_on, move_back, opened_alike, opened_purses, spent, winning_alike, wins_alike, with_marks}
 use Rattle.board_session.proofs.SettledLemmas.{placed_declares, placed_settled}
 
--- a pass more
-less_more : (c : Colour) (p : Tally) (m : Purses) → paid_out c (less_passes p m) ≡ less_passes (grown c 1 p) m
-less_more Black p m = let e : m.black - p.black - 1 ≡ m.black - (p.black + 1) = omega arith in λ i. record m { black = e i; white = m.white - p.white }
-less_more White p m = let e : m.white - p.white - 1 ≡ m.white - (p.white + 1) = omega arith in λ i. record m { black = m.black - p.black; white = e i }
+-- a game without cycles is one that its position opens
+pub opens_so : {limits : Limits} {setup : Setup} {passes : Tally} {w : Whole} → OpensLess limits setup passes w → OpensSo limits.tax setup passes w
+opens_so opens = record { start = opens.start; opening = opens.playable.opening; pay = opens.pay; less = opens.less }
 
-pays_more : (c : Colour) (p : Tally) (m : Purses) → PayFor p m → 1 ≤ purse c (less_passes p m) → PayFor (grown c 1 p) m
-pays_more Black p m pay some = record { black = omega (arith, some); white = pay.white }
-pays_more White p m pay some = record { black = pay.black; white = omega (arith, some) }
-
--- the half-point and the passes
-less_halved : (c : Colour) (p : Tally) (b w : ℕ) (t : Token) → p.black ≤ b → p.white ≤ w
-    → halved c (less_passes p (record { black = b; white = w; token = t })) ≡ less_passes p (halved c (record { black = b; white = w; token = t }))
-less_halved Black p b w token.Nobody hb hw = refl
-less_halved Black p b w token.Black hb hw = refl
-less_halved Black p b w token.White hb hw = let e : w - p.white + 1 ≡ w + 1 - p.white = omega (arith, hw) in λ i. record { black = b - p.black; white = e i; token = token.Nobody }
-less_halved White p b w token.Nobody hb hw = refl
-less_halved White p b w token.White hb hw = refl
-less_halved White p b w token.Black hb hw = let e : b - p.black + 1 ≡ b + 1 - p.black = omega (arith, hb) in λ i. record { black = e i; white = w - p.white; token = token.Nobody }
-
-pays_halved : (c : Colour) (p : Tally) (b w : ℕ) (t : Token) → p.black ≤ b → p.white ≤ w → PayFor p (halved c (record { black = b; white = w; token = t }))
-pays_halved Black p b w token.Nobody hb hw = record { black = hb; white = hw }
-pays_halved Black p b w token.Black hb hw = record { black = hb; white = hw }
-pays_halved Black p b w token.White hb hw = record { black = hb; white = omega (arith, hw) }
-pays_halved White p b w token.Nobody hb hw = record { black = hb; white = hw }
-pays_halved White p b w token.White hb hw = record { black = hb; white = hw }
-pays_halved White p b w token.Black hb hw = record { black = omega (arith, hb); white = hw }
-
--- what is in the purses beside a komi
-pub record Beside (k : ℤ) (x y : ℕ) (m : Purses) : Type 0 where
-  pub black : m.black ≡ x + komi_points Black k
-  pub white : m.white ≡ y + komi_points White k
-  pub token : m.token ≡ komi_token k
-
-odd_or_none : (n : ℕ) (x : Token) → ((n % 2 ≡ 0) × (cond (nat_eq (n % 2) 0) token.Nobody x ≡ token.Nobody)) ⊎ ((n % 2 ≡ 1) × (cond (nat_eq (n % 2) 0) token.Nobody x ≡ x))
-odd_or_none n x = elim (cases_eq (n % 2) 0) [
-  | inl even ↦ inl (even, ap (λ k. cond (nat_eq k 0) token.Nobody x) even)
-  | inr not ↦ let odd : n % 2 ≡ 1 = omega (arith, not) in inr (odd, ap (λ k. cond (nat_eq k 0) token.Nobody x) odd)
-]
-
-even_none : (n : ℕ) (x : Token) → n % 2 ≡ 0 → cond (nat_eq (n % 2) 0) token.Nobody x ≡ token.Nobody
-even_none n x even = ap (λ k. cond (nat_eq k 0) token.Nobody x) even
-
--- a half-point of White's
-white_half : (c : Colour) (n x y b w : ℕ) → n % 2 ≡ 1 → b ≡ x + 0 → w ≡ y + n / 2
-    → Beside (komi_halved c (pos n)) x y (halved c (record { black = b; white = w; token = token.White }))
-white_half Black n x y b w odd black white =
-    let e : pos (n + 1) ≡ pos n +ℤ pos 1 = omega (arith, ints) in
-    subst (λ k. Beside k x y (record { black = b; white = w + 1; token = token.Nobody })) e
-    record { black = black; white = omega (arith, odd, white); token = sym (even_none (n + 1) token.White (omega (arith, odd))) }
-white_half White n x y b w odd black white =
-    let e : pos (n - 1) ≡ pos n -ℤ pos 1 = omega (arith, ints, odd) in
-    subst (λ k. Beside k x y (record { black = b; white = w; token = token.Nobody })) e
-    record { black = black; white = omega (arith, odd, white); token = sym (even_none (n - 1) token.White (omega (arith, odd))) }
-
--- a half-point of Black's
-black_half : (c : Colour) (n x y b w : ℕ) → suc n % 2 ≡ 1 → b ≡ x + suc n / 2 → w ≡ y + 0
-    → Beside (komi_halved c (negsuc n)) x y (halved c (record { black = b; white = w; token = token.Black }))
-black_half White n x y b w odd black white =
-    let e : negsuc (n + 1) ≡ negsuc n -ℤ pos 1 = omega (arith, ints) in
-    subst (λ k. Beside k x y (record { black = b + 1; white = w; token = token.Nobody })) e
-    record { black = omega (arith, odd, black); white = white; token = sym (even_none (suc (n + 1)) token.Black (omega (arith, odd))) }
-black_half Black zero x y b w odd black white =
-    let e : pos 0 ≡ negsuc 0 +ℤ pos 1 = refl in
-    subst (λ k. Beside k x y (record { black = b; white = w; token = token.Nobody })) e record { black = omega (arith, black); white = white; token = refl }
-black_half Black (suc n) x y b w odd black white =
-    let e : negsuc n ≡ negsuc (suc n) +ℤ pos 1 = omega (arith, ints) in
-    subst (λ k. Beside k x y (record { black = b; white = w; token = token.Nobody })) e
-    record { black = omega (arith, odd, black); white = white; token = sym (even_none (suc n) token.Black (omega (arith, odd))) }
-
-halved_beside : (c : Colour) (k : ℤ) (x y b w : ℕ) (t : Token) → Beside k x y (record { black = b; white = w; token = t }) → t ≢ token.Nobody
-    → Beside (komi_halved c k) x y (halved c (record { black = b; white = w; token = t }))
-halved_beside c (pos n) x y b w t beside some = elim (odd_or_none n token.White) [
-  | inl (even, none) ↦ absurd (some (beside.token ∙ none))
-  | inr (odd, is) ↦ subst (λ z. Beside (komi_halved c (pos n)) x y (halved c (record { black = b; white = w; token = z }))) (sym (beside.token ∙ is))
-      (white_half c n x y b w odd beside.black beside.white)
-]
-halved_beside c (negsuc n) x y b w t beside some = elim (odd_or_none (suc n) token.Black) [
-  | inl (even, none) ↦ absurd (some (beside.token ∙ none))
-  | inr (odd, is) ↦ subst (λ z. Beside (komi_halved c (negsuc n)) x y (halved c (record { black = b; white = w; token = z }))) (sym (beside.token ∙ is))
-      (black_half c n x y b w odd beside.black beside.white)
-]
-
--- A move that puts no stone, from the game that a position opens.
+-- A move that puts no stone leads to a game of the same board, with the same regions.
 module _ {limits : Limits} {a : Position} {k : ℤ} {c : Colour} {w : Whole} (opens : OpensLess limits (setup_of a k c) a.passes w) where
-  abbrev start : Whole
-  start = opens.start
-
-  turn : start.side ≡ c
-  turn = opens.playable.opening.turn
-
-  spent : (t : Whole) → IsMove w Spend t
-      → OpensLess limits (setup_of (record { board = a.board; prisoners = a.prisoners; passes = grown c 1 a.passes }) k (other c)) (grown c 1 a.passes) t
-  spent t move =
-      let playable = opens.playable in let opening = playable.opening in
-      let moved = subst (λ x. IsMove x Spend t) opens.less move in
-      record {
-        settled = opens.settled;
-        start = record start { side = other c };
-        playable = record {
-          regions = playable.regions;
-          are_regions = playable.are_regions;
-          sound = playable.sound;
-          opening = record { board = opening.board; contested = opening.contested; black = opening.black; white = opening.white; token = opening.token; turn = refl };
-        };
-        pay = pays_more c a.passes start.purses opens.pay (subst (λ d. 1 ≤ purse d (less_passes a.passes start.purses)) turn moved.0);
-        less = moved.1 ∙ ap (λ d. record start { purses = paid_out d (less_passes a.passes start.purses); side = other d }) turn
-            ∙ ap (λ m. record start { purses = m; side = other c }) (less_more c a.passes start.purses);
-      }
-
-  halved_on : (t : Whole) → IsMove w Half t → OpensLess limits (setup_of a (komi_halved c k) (other c)) a.passes t
-  halved_on t move =
-      let playable = opens.playable in let opening = playable.opening in
-      let moved = subst (λ x. IsMove x Half t) opens.less move in
-      let m = start.purses in
-      let beside = halved_beside c k _ _ m.black m.white m.token (record { black = opening.black.2; white = opening.white.2; token = opening.token }) moved.0 in
-      record {
-        settled = opens.settled;
-        start = record start { purses = halved c m; side = other c };
-        playable = record {
-          regions = playable.regions;
-          are_regions = playable.are_regions;
-          sound = playable.sound;
-          opening = record {
-            board = opening.board;
-            contested = opening.contested;
-            black = (opening.black.0, opening.black.1, beside.black);
-            white = (opening.white.0, opening.white.1, beside.white);
-            token = beside.token;
-            turn = refl;
-          };
-        };
-        pay = pays_halved c a.passes m.black m.white m.token opens.pay.black opens.pay.white;
-        less = moved.1 ∙ ap (λ d. record start { purses = halved d (less_passes a.passes m); side = other d }) turn
-            ∙ ap (λ z. record start { purses = z; side = other c }) (less_halved c a.passes m.black m.white m.token opens.pay.black opens.pay.white);
-      }
+  goes_on : (b : Position) (l : ℤ) (d : Colour) (t : Whole) → b.board ≡ a.board → OpensSo limits.tax (setup_of b l d) b.passes t
+      → OpensLess limits (setup_of b l d) b.passes t
+  goes_on b l d t same so = record {
+    settled = subst IsSettled (sym same) opens.settled;
+    start = so.start;
+    playable = record {
+      regions = opens.playable.regions;
+      are_regions = subst (λ g. AreRegionsOfPlay g opens.playable.regions) (sym same) opens.playable.are_regions;
+      sound = opens.playable.sound;
+      opening = so.opening;
+    };
+    pay = so.pay;
+    less = so.less;
+  }
 
 pub game_goes_on : GameGoesOn
 game_goes_on limits s u c (Stone p) w t none opens move made = absurd none
@@ -184,75 +60,12 @@ game_goes_on limits s u c Spend w t none opens move (b, (board, prisoners, passe
     let same : b ≡ record { board = (present s).board; prisoners = (present s).prisoners; passes = grown c 1 (present s).passes } =
     λ i. record { board = board i; prisoners = prisoners i; passes = passes i } in
     subst (λ x. OpensIn limits x (other c) t) (sym is)
-    (subst (λ x. OpensLess limits (setup_of x s.komi_halves (other c)) x.passes t) (sym (after_push s.setup s.moves _ ∙ same)) (spent opens t move))
+    (subst (λ x. OpensLess limits (setup_of x s.komi_halves (other c)) x.passes t) (sym (after_push s.setup s.moves _ ∙ same))
+    (goes_on opens _ s.komi_halves (other c) t refl (spent (opens_so opens) t move)))
 game_goes_on limits s u c Half w t none opens move (b, same, is) =
     subst (λ x. OpensIn limits x (other c) t) (sym is)
-    (subst (λ x. OpensLess limits (setup_of x (komi_halved c s.komi_halves) (other c)) x.passes t) (sym (after_push s.setup s.moves _ ∙ same)) (halved_on opens t move))
-
--- States that differ in their lists of contested points, but not in these points.
-abbrev AreMarkedAlike : List Bool → List Bool → Type 0
-AreMarkedAlike x y = (p : ℕ) → IsMarked x p ↔ IsMarked y p
-
--- the state with the other list
-abbrev with_marks : Whole → List Bool → Whole
-with_marks w y = record w { contested = y }
-
-move_alike : (w t : Whole) (y : List Bool) (m : Move) → AreMarkedAlike w.contested y → IsMove w m t → IsMove (with_marks w y) m (with_marks t y)
-move_alike w t y (Stone p) alike (marked, (h, (n, placed, taken, is))) = ((alike p).0 marked, (h, (n, placed, taken, ap (λ z. with_marks z y) is)))
-move_alike w t y Spend alike (some, is) = (some, ap (λ z. with_marks z y) is)
-move_alike w t y Half alike (some, is) = (some, ap (λ z. with_marks z y) is)
-
-marks_stay : (w t : Whole) (m : Move) → IsMove w m t → t.contested ≡ w.contested
-marks_stay w t (Stone p) (marked, (h, (n, placed, taken, is))) = ap (λ z. z.contested) is
-marks_stay w t Spend (some, is) = ap (λ z. z.contested) is
-marks_stay w t Half (some, is) = ap (λ z. z.contested) is
-
-move_back : (w u : Whole) (y : List Bool) (m : Move) → AreMarkedAlike w.contested y → IsMove (with_marks w y) m u → IsMove w m (with_marks u w.contested)
-move_back w u y m alike move = move_alike (with_marks w y) u w.contested m (λ p. ((alike p).1, (alike p).0)) move
-
-same_marks : (w u : Whole) (y : List Bool) (m : Move) → IsMove (with_marks w y) m u → with_marks u y ≡ u
-same_marks w u y m move = let e = marks_stay (with_marks w y) u m move in λ i. record u { contested = sym e i }
-
-mutual
-  wins_alike : (n : ℕ) (w : Whole) (y : List Bool) → AreMarkedAlike w.contested y → WinsWithin Whole Leads n w → WinsWithin Whole Leads n (with_marks w y)
-  wins_alike zero w y alike wins = wins
-  wins_alike (suc n) w y alike (t, (m, move), loses) =
-      (with_marks t y, (m, move_alike w t y m alike move), loses_alike n t y (subst (λ x. AreMarkedAlike x y) (sym (marks_stay w t m move)) alike) loses)
-
-  loses_alike : (n : ℕ) (w : Whole) (y : List Bool) → AreMarkedAlike w.contested y → LosesWithin Whole Leads n w → LosesWithin Whole Leads n (with_marks w y)
-  loses_alike zero w y alike loses = λ u (m, move). loses (with_marks u w.contested) (m, move_back w u y m alike move)
-  loses_alike (suc n) w y alike loses = λ u (m, move).
-      subst (WinsWithin Whole Leads n) (same_marks w u y m move)
-      (wins_alike n (with_marks u w.contested) y alike (loses (with_marks u w.contested) (m, move_back w u y m alike move)))
-
-winning_alike : (w : Whole) (y : List Bool) (m : Move) → AreMarkedAlike w.contested y → IsWinning w m → IsWinning (with_marks w y) m
-winning_alike w y m alike (t, move, (n, loses)) =
-    (with_marks t y, move_alike w t y m alike move, (n, loses_alike n t y (subst (λ x. AreMarkedAlike x y) (sym (marks_stay w t m move)) alike) loses))
-
--- the purses with which a position opens
-opened_purses : (limits : Limits) (setup : Setup) (s t : Whole) → IsPlayable limits setup s → IsPlayable limits setup t → s.purses ≡ t.purses
-opened_purses limits setup s t a b =
-    let x : Ground = record { board = setup.board; black_prisoners = setup.black_prisoners; white_prisoners = setup.white_prisoners; tax = limits.tax } in
-    let p = a.opening in let q = b.opening in
-    let points = beside_komi x setup.komi_halves setup.side s p in
-    let black = points.1.black setup.komi_halves setup.side s p ∙ sym (points.1.black setup.komi_halves setup.side t q) in
-    let white = points.1.white setup.komi_halves setup.side s p ∙ sym (points.1.white setup.komi_halves setup.side t q) in
-    λ i. record { black = black i; white = white i; token = (p.token ∙ sym q.token) i }
-
--- two games that a position opens differ in these lists alone
-opened_alike : (limits : Limits) (setup : Setup) (passes : Tally) (v w : Whole) → OpensLess limits setup passes v → OpensLess limits setup passes w
-    → (v ≡ with_marks w v.contested) × AreMarkedAlike w.contested v.contested
-opened_alike limits setup passes v w a b =
-    let p = a.playable.opening in let q = b.playable.opening in
-    let purses = opened_purses limits setup a.start b.start a.playable b.playable in
-    let start : a.start ≡ with_marks b.start a.start.contested = λ i. record { board = (p.board ∙ sym q.board) i; contested = a.start.contested; purses = purses i; side = (p.turn ∙ sym q.turn) i } in
-    let ours = ap (λ z. z.contested) a.less in let theirs = ap (λ z. z.contested) b.less in (
-      a.less ∙ ap (after_passes passes) start ∙ (λ i. with_marks (sym b.less i) (sym ours i)),
-      λ r. (
-        λ marked. subst (λ l. IsMarked l r) (sym ours) ((p.contested r).1 ((q.contested r).0 (subst (λ l. IsMarked l r) theirs marked))),
-        λ marked. subst (λ l. IsMarked l r) (sym theirs) ((q.contested r).1 ((p.contested r).0 (subst (λ l. IsMarked l r) ours marked))),
-      ),
-    )
+    (subst (λ x. OpensLess limits (setup_of x (komi_halved c s.komi_halves) (other c)) x.passes t) (sym (after_push s.setup s.moves _ ∙ same))
+    (goes_on opens (present s) (komi_halved c s.komi_halves) (other c) t refl (halved_on (opens_so opens) t move)))
 
 -- the move that is chosen wins where one does
 chosen_wins : (w : Whole) (m : Move) → Chooses w m → MoverWins Whole Leads w → IsWinning w m
@@ -262,7 +75,7 @@ chosen_wins w m (inr none) (suc n, wins) = absurd (none.0 wins.1.0 (wins.0, wins
 
 pub win_is_kept : WinIsKept
 win_is_kept limits s c m w (v, opens, chooses) opened (n, wins) =
-    let (same, alike) = opened_alike limits _ _ v w opens opened in
+    let (same, alike) = opened_alike limits.tax _ _ v w (opens_so opens) (opens_so opened) in
     let back : with_marks v w.contested ≡ w = ap (λ z. with_marks z w.contested) same in
     let won = chosen_wins v m chooses (n, subst (WinsWithin Whole Leads n) (sym same) (wins_alike n w v.contested alike wins)) in
     subst (λ z. IsWinning z m) back (winning_alike v w.contested m (λ p. ((alike p).1, (alike p).0)) won)
@@ -296,13 +109,13 @@ opens_or_not limits setup passes w words opens (inr (settled, inl (fault, begun,
     sound_not_refused limits regions fault (vertex_text setup.board.columns setup.board.rows) words
     (subst (AreSound limits) (one_regions setup.board opens.playable.regions regions opens.playable.are_regions are) opens.playable.sound) refused said
 opens_or_not limits setup passes w words opens (inr (settled, inr (start, playable, not, is))) =
-    not (subst (PayFor passes) (opened_purses limits setup opens.start start opens.playable playable) opens.pay)
+    not (subst (PayFor passes) (opened_purses limits.tax setup opens.start start opens.playable.opening playable.opening) opens.pay)
 
 -- a move is chosen, or there is none
 chosen_or_none : (limits : Limits) (setup : Setup) (passes : Tally) (v w : Whole) (m : Move) → OpensLess limits setup passes v → OpensLess limits setup passes w → Chooses v m
     → ¬ HasMove w → ⊥
 chosen_or_none limits setup passes v w m a b chooses none =
-    let (same, alike) = opened_alike limits setup passes v w a b in
+    let (same, alike) = opened_alike limits.tax setup passes v w (opens_so a) (opens_so b) in
     let (t, move) = chosen_legal v m chooses in
     none (m, (with_marks t w.contested, move_back w t v.contested m alike (subst (λ z. IsMove z m t) same move)))
 

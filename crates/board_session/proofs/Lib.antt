@@ -6,5 +6,8 @@ pub mod AnswerLemmas
 pub mod StandingLemmas
 pub mod HandicapLemmas
 pub mod GeneratingLemmas
+pub mod OpenedLemmas
 pub mod GeneratedLawLemmas
+pub mod CycleAdviceLemmas
+pub mod CycleLawLemmas
 pub mod SettledLemmas

@@ -3,6 +3,8 @@ pub mod Positions
 pub mod States
 pub mod Generating
 pub mod GeneratedLaws
+pub mod Cycles
+pub mod CycleLaws
 pub mod Texts
 pub mod Handicaps
 pub mod Orders

@@ -23,7 +23,8 @@ use Rattle.board_session.specs.declared.question.Question.{Question}
 use Rattle.board_session.specs.declared.question.Question.TheVariants as question
 use Rattle.board_session.specs.declared.refusal.Refusal.{Refusal}
 use Rattle.board_session.specs.declared.refusal.Refusal.TheVariants.{UnknownCommand, SyntaxError, UnacceptableSize, IllegalMove, CannotLoadFile, CannotUndo, BoardNotEmpty, BadNumberOfStones, BadVertexList}
-use Rattle.board_session.specs.Generating.{Advice, AdvisesIn, Follows, board_move, chosen, resigned, unopened}
+use Rattle.board_session.specs.Cycles.{TellsIn}
+use Rattle.board_session.specs.Generating.{Advice, Follows, board_move, chosen, resigned, unopened}
 use Rattle.board_session.specs.Handicaps.{CannotPut, HasPlaces, IsBare, IsSomeAstray, NamePoints, PutsStones, fixed_points}
 use Rattle.board_session.specs.Orders.{BoardOrder, Asked, Asks, command_word}
 use Rattle.board_session.specs.Orders.BoardOrder.{tell, known, ask, boardsize, clear_board, komi, play, genmove, reg_genmove, loadsgf, undo, fixed_handicap, free_handicap, quit}
@@ -67,13 +68,13 @@ advice_said columns rows (unopened words) = unsolved words
 abbrev pub game_limits : BoardLimits → Limits
 game_limits limits = record { positions = limits.positions; parts = limits.parts; tax = false }
 
--- the engine's move is said and made, if there is one
-abbrev pub Generates : Limits → Colour → BoardState → Said → BoardState → Type 0
-Generates limits c s said u = (a : Advice) × AdvisesIn limits s c a × (said ≡ advice_said (present s).board.columns (present s).board.rows a) × Follows c a s u
+-- the engine's move, with cycles admitted or without, is said and made, if there is one
+abbrev pub Generates : Bool → Limits → Colour → BoardState → Said → BoardState → Type 0
+Generates cycles limits c s said u = (a : Advice) × TellsIn cycles limits s c a × (said ≡ advice_said (present s).board.columns (present s).board.rows a) × Follows c a s u
 
 -- the engine's move is said, if there is one
-abbrev pub Suggests : Limits → Colour → BoardState → Said → Type 0
-Suggests limits c s said = (a : Advice) × AdvisesIn limits s c a × (said ≡ advice_said (present s).board.columns (present s).board.rows a)
+abbrev pub Suggests : Bool → Limits → Colour → BoardState → Said → Type 0
+Suggests cycles limits c s said = (a : Advice) × TellsIn cycles limits s c a × (said ≡ advice_said (present s).board.columns (present s).board.rows a)
 
 -- the text of a part of the state
 abbrev pub answer_text : Question → BoardState → List ℕ
@@ -160,8 +161,8 @@ TakesFile settings files file failed s said u = IsUtf8 file × RefusesWith Canno
 -- what an order does, by what becomes of its load
 abbrev pub Obeys : BoardLimits → Option Files → BoardOrder → Fate → BoardState → Said → BoardState → Type 0
 Obeys limits files (loadsgf file after) fate s said u = TakesFile (load_settings limits.territory after) files file fate s said u
-Obeys limits files (genmove c) fate s said u = (fate ≡ no_load) × Generates (game_limits limits) c s said u
-Obeys limits files (reg_genmove c) fate s said u = (fate ≡ no_load) × Suggests (game_limits limits) c s said × (u ≡ s)
+Obeys limits files (genmove c) fate s said u = (fate ≡ no_load) × Generates limits.cycles (game_limits limits) c s said u
+Obeys limits files (reg_genmove c) fate s said u = (fate ≡ no_load) × Suggests limits.cycles (game_limits limits) c s said × (u ≡ s)
 Obeys limits files order fate s said u = (fate ≡ no_load) × Does order s said u
 
 -- what is done on what the words ask for

@@ -7,10 +7,12 @@ ghost use Rattle.region_cut.specs.Cut.{AreRegionsOfPlay};
 ghost use Rattle.sgf_go.specs.Position.{IsFit};
 ghost use Rattle.whole_rules.specs.Opening.{MayTax};
 ghost use Rattle.endgame_solver.specs.Faults.{most_steps};
+ghost use Rattle.board_session.specs.Cycles.{AdvisesWith};
 ghost use Rattle.board_session.specs.Generating.{Advises, PayFor, after_passes, board_move, unsettled_words};
 ghost use Rattle.board_session.specs.Kept.{IsModest};
 ghost use Rattle.board_session.specs.inner.Generating.{IsTold, advice_of};
 
+use crate::cycle_advice::open_with_cycles;
 use crate::position::{BoardMove, Tally};
 use endgame_solver::{Limits, Solved};
 use fault_words::{Naming, fault_words};
@@ -52,7 +54,7 @@ fn unsettled_words(alloc: Global, board: &Board, point: Point) -> Result<String,
 }
 
 /// Whether each purse holds a point for each pass of its colour.
-fn pay(whole: &Whole, passes: Tally) -> bool
+pub(crate) fn pay(whole: &Whole, passes: Tally) -> bool
     ensures { (result ≡ true) ↔ PayFor passes whole.now.purses }
 {
     passes.of(Colour::Black) <= whole.purse(Colour::Black)
@@ -108,12 +110,13 @@ fn open<L: Ledger>(
     }
 }
 
-/// What the colour to move is told, which has passed so often.
+/// What the colour to move is told, which has passed so often, with cycles admitted or without.
 pub(crate) fn advise<L: Ledger>(
     alloc: Global,
     setup: &Setup,
     passes: Tally,
     limits: &Limits,
+    cycles: bool,
     steps: &mut Steps<L>,
 ) -> Result<Advice, AllocError>
     requires black { setup.now.black_prisoners < 2 ^ 40 }
@@ -121,7 +124,7 @@ pub(crate) fn advise<L: Ledger>(
     requires komi { IsModest setup.now.komi_halves }
     requires taxed { MayTax limits.now.tax setup.now.board }
     requires positions { limits.now.positions ≤ MOST_POSITIONS }
-    ensures advised { IfOk result (λ advice. Advises limits.now setup.now passes
+    ensures advised { IfOk result (λ advice. AdvisesWith cycles limits.now setup.now passes
         (advice_of advice)) }
     ensures steps { (regions : List Region) → AreRegionsOfPlay setup.now.board regions
         → steps.new ≤ steps.old + most_steps limits.now regions }
@@ -129,6 +132,9 @@ pub(crate) fn advise<L: Ledger>(
     if let Some(point) = setup.board.unsettled()? {
         let words = unsettled_words(alloc, &setup.board, point)?;
         return Ok(Advice::Unopened(words));
+    }
+    if cycles {
+        return open_with_cycles(alloc, setup, passes, limits, steps);
     }
     open(alloc, setup, passes, limits, steps)
 }

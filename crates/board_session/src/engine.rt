@@ -158,11 +158,13 @@ impl BoardEngine {
             Request::LoadSgf(file, after) => self.load_file(id, file, after, shelf),
             Request::GenMove(colour) => {
                 let limits = self.limits.of_game();
-                self.session.generate(id, colour, &limits, steps)
+                self.session
+                    .generate(id, colour, &limits, self.limits.cycles, steps)
             }
             Request::RegGenMove(colour) => {
                 let limits = self.limits.of_game();
-                self.session.suggest(id, colour, &limits, steps)
+                self.session
+                    .suggest(id, colour, &limits, self.limits.cycles, steps)
             }
             plain => self.session.obey(id, plain),
         }

@@ -5,7 +5,8 @@ ghost use Rattle.desk_io.specs.declared.lines.TheConstants.{MOST_LINES};
 ghost use Rattle.go_grid.specs.Region.{Region};
 ghost use Rattle.region_cut.specs.Cut.{AreRegionsOfPlay};
 ghost use Rattle.endgame_solver.specs.Faults.{most_steps};
-ghost use Rattle.board_session.specs.Generating.{AdvisesIn, Follows, MakesChosen, komi_after, setup_of};
+ghost use Rattle.board_session.specs.Cycles.{TellsIn};
+ghost use Rattle.board_session.specs.Generating.{Follows, MakesChosen, komi_after, setup_of};
 ghost use Rattle.board_session.specs.Kept.{IsModest};
 ghost use Rattle.board_session.specs.Session.{advice_said, reply_text};
 ghost use Rattle.board_session.specs.States.{present};
@@ -85,12 +86,13 @@ impl BoardSession {
         alloc: Global,
         colour: Colour,
         limits: &Limits,
+        cycles: bool,
         steps: &mut Steps<L>,
     ) -> Result<Advice, AllocError>
         requires few { length self.now.moves < MOST_LINES }
         requires untaxed { limits.now.tax ≡ false }
         requires positions { limits.now.positions ≤ MOST_POSITIONS }
-        ensures advised { IfOk result (λ advice. AdvisesIn limits.now self.now colour
+        ensures advised { IfOk result (λ advice. TellsIn cycles limits.now self.now colour
             (advice_of advice)) }
         ensures may { IfOk result (λ advice. MayFollow colour (advice_of advice) self.now) }
         ensures steps { (regions : List Region)
@@ -98,7 +100,7 @@ impl BoardSession {
             → steps.new ≤ steps.old + most_steps limits.now regions }
     {
         let setup = self.setup(colour)?;
-        advise(alloc, &setup, self.present().passes, limits, steps)
+        advise(alloc, &setup, self.present().passes, limits, cycles, steps)
     }
 
     /// Makes a move of the colour that may be made, with the komi after it.
@@ -140,20 +142,21 @@ impl BoardSession {
         id: &[u8],
         colour: Colour,
         limits: &Limits,
+        cycles: bool,
         steps: &mut Steps<L>,
     ) -> Result<ItemList<u8>, AllocError>
         requires few { length self.old.moves < MOST_LINES }
         requires untaxed { limits.now.tax ≡ false }
         requires positions { limits.now.positions ≤ MOST_POSITIONS }
         ensures generated { IfOk result
-            (λ reply. IsGenerated limits.now colour id.now self.old reply self.new) }
+            (λ reply. IsGenerated cycles limits.now colour id.now self.old reply self.new) }
         ensures same { OnErr result (self.new ≡ self.old) }
         ensures steps { (regions : List Region)
             → AreRegionsOfPlay (present self.old).board regions
             → steps.new ≤ steps.old + most_steps limits.now regions }
     {
         let alloc = self.allocator();
-        let advice = self.advise(alloc, colour, limits, steps)?;
+        let advice = self.advise(alloc, colour, limits, cycles, steps)?;
         let reply = reply_to(alloc, id, self.present().board.size(), &advice)?;
         self.follow(colour, &advice)?;
         Ok(reply)
@@ -165,19 +168,20 @@ impl BoardSession {
         id: &[u8],
         colour: Colour,
         limits: &Limits,
+        cycles: bool,
         steps: &mut Steps<L>,
     ) -> Result<ItemList<u8>, AllocError>
         requires few { length self.now.moves < MOST_LINES }
         requires untaxed { limits.now.tax ≡ false }
         requires positions { limits.now.positions ≤ MOST_POSITIONS }
         ensures suggested { IfOk result
-            (λ reply. IsSuggested limits.now colour id.now self.now reply) }
+            (λ reply. IsSuggested cycles limits.now colour id.now self.now reply) }
         ensures steps { (regions : List Region)
             → AreRegionsOfPlay (present self.now).board regions
             → steps.new ≤ steps.old + most_steps limits.now regions }
     {
         let alloc = self.allocator();
-        let advice = self.advise(alloc, colour, limits, steps)?;
+        let advice = self.advise(alloc, colour, limits, cycles, steps)?;
         let reply = reply_to(alloc, id, self.present().board.size(), &advice)?;
         Ok(reply)
     }

@@ -1,5 +1,6 @@
 //! Laws of board sessions, the contract of a function that does nothing.
 
+ghost use Rattle.board_session.specs.CycleLaws.{GameGoesOnWithCycles, OneKindIsToldWithCycles, WinIsKeptWithCycles};
 ghost use Rattle.board_session.specs.GeneratedLaws.{BoardsStaySettled, GameGoesOn, OneKindIsTold, WinIsKept};
 ghost use Rattle.board_session.specs.Laws.{MovesStand};
 
@@ -16,4 +17,11 @@ pub fn generating_laws()
     ensures on { GameGoesOn }
     ensures one { OneKindIsTold }
     ensures settled { BoardsStaySettled }
+{}
+
+/// The same of games in which kos can arise. It has no code.
+pub fn cycle_laws()
+    ensures win { WinIsKeptWithCycles }
+    ensures on { GameGoesOnWithCycles }
+    ensures one { OneKindIsToldWithCycles }
 {}

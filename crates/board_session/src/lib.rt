@@ -5,6 +5,7 @@ mod advice;
 mod answers;
 mod board_text;
 mod command;
+mod cycle_advice;
 mod engine;
 mod generating;
 mod handicap;
@@ -20,6 +21,6 @@ mod texts;
 mod wanted;
 
 pub use engine::{Answer, BoardEngine};
-pub use laws::{board_laws, generating_laws};
+pub use laws::{board_laws, cycle_laws, generating_laws};
 pub use limits::BoardLimits;
 pub use position::{BoardMove, MadeMove, Position, Tally};

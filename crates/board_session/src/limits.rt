@@ -14,6 +14,8 @@ pub struct BoardLimits {
     pub parts: u32,
     /// Whether the points that a file marks are declared.
     pub territory: bool,
+    /// Whether regions may have cycles.
+    pub cycles: bool,
 }
 
 impl BoardLimits {

@@ -1,16 +1,20 @@
--- What is kept behind a move that is made.
+-- What is kept behind a move that is made, and where points are taken out of a purse.
 use Rattle.std.proofs.Common.{ℕ, ◌≡◌, arith, refl, sym, ap, ◌∙◌, subst, List, [], ◌++◌, length, take, drop, Option, None, Some, Result, Ok, Err, length-set, ◌≤◌, ◌^◌}
 use Rattle.std.proofs.Math.ListN.{drop_of_length-le}
 use Rattle.std.proofs.Math.Seq.{take-length}
 use Rattle.std.proofs.lemmas.List.{append-nil}
 use Rattle.go_grid.specs.declared.grid.Colour.{Colour}
 use Rattle.go_grid.specs.declared.grid.Colour.TheVariants.{Black, White}
-use Rattle.whole_rules.specs.Purses.{purse}
+use Rattle.go_grid.specs.Region.{Region}
+use Rattle.short_games.specs.Tree.{Tree}
+use Rattle.whole_rules.specs.Purses.{purse, taken_out}
 use Rattle.whole_rules.specs.declared.states.Move.{Move}
 use Rattle.whole_rules.specs.declared.states.MoveError.{MoveError}
 use Rattle.whole_rules.specs.WholeGame.{Whole, Applies}
 use Rattle.whole_rules.proofs.MoveLaws.{refused_not_legal}
+use Rattle.endgame_solver.proofs.BookkeepingLaws.{out-less}
 use Rattle.cycle_solver.specs.declared.asking.Present.{Present}
+use Rattle.cycle_solver.specs.declared.region_game.RegionGame.{RegionGame}
 use Rattle.cycle_solver.specs.Changes.{IsBehind, places_after}
 use Rattle.cycle_solver.specs.Held.{AreSummed, IsHeld, IsKept, IsSeen, enough}
 use Rattle.cycle_solver.specs.Keeping.{HasRoom}
@@ -55,3 +59,17 @@ module _ {present : Present} {m : Move} {stone : Option (ℕ × ℕ)} {t : Whole
     low_sum = low_sum;
     high_sum = high_sum;
   }
+
+-- points that are taken out of a purse
+pub kept_out : {regions : List Region} {games : List RegionGame} {places low high : List ℕ} {Ts : List Tree} {s : Whole}
+    → IsKept regions games places low high Ts s → (c : Colour) (n : ℕ) → IsKept regions games places low high Ts (record s { purses = taken_out c n s.purses })
+kept_out {s = s} kept c n = record {
+  held = record {
+    board = kept.held.board;
+    solved = kept.held.solved;
+    at = record { many = kept.held.at.many; walls = kept.held.at.walls; contested = kept.held.at.contested; shown = kept.held.at.shown };
+    modest = λ d. omega (arith, kept.held.modest d, out-less d c n s.purses);
+  };
+  low_sum = kept.low_sum;
+  high_sum = kept.high_sum;
+}

@@ -8,6 +8,7 @@ ghost use Rattle.sgf_go.specs.Position.{IsFit};
 ghost use Rattle.whole_rules.specs.Opening.{MayTax};
 ghost use Rattle.endgame_solver.specs.Faults.{most_steps};
 ghost use Rattle.whole_rules.specs.FirstWinningMove.{IsFirstWinning, IsWinner};
+ghost use Rattle.whole_rules.specs.Purses.{purse, taken_out};
 ghost use Rattle.whole_rules.specs.WholeGame.{IsLegal};
 ghost use Rattle.whole_rules.specs.declared.states.Move.TheVariants.{Stone};
 ghost use Rattle.endgame_solver.specs.Regions.{region_at};
@@ -177,6 +178,18 @@ impl CycleGame {
             low: value_with(self.games.at(i), Colour::Black, ENOUGH, 0),
             high: value_with(self.games.at(i), Colour::White, ENOUGH, 0),
         }
+    }
+
+    /// Takes points out of a player's purse, which is no move: the side to move stays.
+    pub fn take_out(&mut self, colour: Colour, points: u64)
+        requires { points ≤ purse colour self.old.state.purses }
+        ensures { self.new ≡ record self.old {
+          state = record self.old.state {
+            purses = taken_out colour points self.old.state.purses;
+          };
+        } }
+    {
+        self.whole.take_out(colour, points);
     }
 
     /// The winner of the present state by plain recursion. None exactly where there is none.

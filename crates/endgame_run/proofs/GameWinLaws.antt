@@ -1,5 +1,5 @@
 -- A game that the engine wins at its opening, and that an engine keeps what it has won.
-use Rattle.std.proofs.Common.{◌≡◌, ◌⊎◌, ◌++◌, ℕ, inl, inr, refl, sym, ap, subst, ◌∙◌, append_assoc, append-nil, take-append-drop, Bool, true, false, List, [], Some, None}
+use Rattle.std.proofs.Common.{◌≡◌, ◌⊎◌, ◌++◌, ℕ, arith, inl, inr, refl, sym, ap, subst, ◌∙◌, append_assoc, append-nil, take-append-drop, Bool, true, false, List, [], Some, None}
 use Rattle.std.specs.Prelude.{Option, IfSome, codes, drop, take}
 use Rattle.std.specs.Io.KnownBytes.{append_known}
 use Rattle.desk_io.specs.Desk.{Desk, Input, Outside, known}
@@ -17,6 +17,7 @@ use Rattle.engine_player.specs.Played.{BothServe, Keeping}
 use Rattle.engine_player.specs.Opening.{OpensGame}
 use Rattle.whole_rules.specs.WholeGame.{Whole}
 use Rattle.gtp_engine.proofs.WinLemmas.{win_is_kept as gtp_win_is_kept}
+use Rattle.board_session.proofs.CycleLawLemmas.{win_is_kept as cycle_win_is_kept}
 use Rattle.board_session.proofs.GeneratedLawLemmas.{win_is_kept as board_win_is_kept}
 use Rattle.engine_player.specs.EngineGame.{EngineGame}
 use Rattle.whole_rules.specs.FirstWinningMove.{IsWinner}
@@ -142,10 +143,12 @@ sound_start true limits setup p settled (keeping, (opening, cut, steady, black, 
       tax = limits.tax;
       start = p.state;
       moves = [];
+      untouched = p.state.purses;
       settled = settled;
       cut = cut;
       opening = opening;
       plays = refl;
+      less = record { purses = λ c. omega arith; token = refl };
     },
   ),
   nothing_serves keeping p.state black white,
@@ -170,7 +173,7 @@ module _ {H S K : Type 0} (o : Outside H S K) (job : Job) (a b : Desk H S K) (st
           λ bytes. wins_from_there g.0 g.1 bytes sound,
         )
   ]
-  keeps gtp r = (gtp_win_is_kept, board_win_is_kept)
+  keeps gtp r = (gtp_win_is_kept, board_win_is_kept, cycle_win_is_kept)
   keeps (ask question word) r = tt
   keeps (trial number) r = tt
   keeps (calc expression) r = tt

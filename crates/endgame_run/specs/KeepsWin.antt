@@ -6,6 +6,7 @@ use Rattle.gd_words.specs.Job.{Job}
 use Rattle.gd_words.specs.Task.{Task}
 use Rattle.gd_words.specs.Task.Task.{gtp, play}
 use Rattle.gtp_engine.specs.Laws.{MoveKeepsWin}
+use Rattle.board_session.specs.CycleLaws.{WinIsKeptWithCycles}
 use Rattle.board_session.specs.GeneratedLaws.{WinIsKept}
 use Rattle.whole_rules.specs.FirstWinningMove.{IsWinner}
 use Rattle.engine_player.specs.EngineGame.{EngineGame}
@@ -20,10 +21,11 @@ PlaysWon job word a b = (engine : Colour) × (s : EngineGame) × IsGame (limits_
     × (IsWinner s.state engine → IfSome a.input.left (λ bytes. IsWonGame engine s bytes a.holds b.holds))
     × ((bytes : List ℕ) → WinsFromThere engine s bytes)
 
--- no game was begun, or one in which the engine keeps what it has won; in each session of the engine, with a board of its own or without, a move keeps it
+-- No game was begun, or one in which the engine keeps what it has won; in each session of the engine, with a board of its own or without,
+-- and there with cycles admitted or without, a move keeps it.
 abbrev pub KeepsWin : Task → Job → Known → Status → Known → Type 0
 KeepsWin (play word) job a status b = IsUnplayed (limits_of job) job.cycles job.settings word a status b ⊎ PlaysWon job word a b
-KeepsWin gtp job a status b = MoveKeepsWin × WinIsKept
+KeepsWin gtp job a status b = MoveKeepsWin × WinIsKept × WinIsKeptWithCycles
 KeepsWin task job a status b = ⊤
 
 -- in every run the engine keeps what it has won

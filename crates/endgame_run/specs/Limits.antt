@@ -12,6 +12,6 @@ limits_of job = record { positions = job.positions; parts = job.parts; tax = job
 abbrev pub engine_limits : Job → EngineLimits
 engine_limits job = record { positions = job.positions; parts = job.parts; territory = job.settings.territory; cycles = job.cycles }
 
--- the limits of a kept board, and whether points are declared
+-- the limits of a kept board, and whether points are declared and cycles admitted
 abbrev pub board_limits : Job → BoardLimits
-board_limits job = record { positions = job.positions; parts = job.parts; territory = job.settings.territory }
+board_limits job = record { positions = job.positions; parts = job.parts; territory = job.settings.territory; cycles = job.cycles }

@@ -51,18 +51,20 @@ fn limits_of_engine(job: &Job<'_>) -> EngineLimits
     }
 }
 
-/// The limits of an engine that keeps a board, in which there are no cycles.
+/// The limits of an engine that keeps a board.
 fn limits_on_board(limits: EngineLimits) -> BoardLimits
     ensures { result ≡ record {
       positions = limits.positions;
       parts = limits.parts;
       territory = limits.territory;
+      cycles = limits.cycles;
     } }
 {
     BoardLimits {
         positions: limits.positions,
         parts: limits.parts,
         territory: limits.territory,
+        cycles: limits.cycles,
     }
 }
 

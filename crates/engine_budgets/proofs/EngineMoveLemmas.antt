@@ -41,7 +41,7 @@ module _ {g : Board} {regions : List Region} {s : Whole} (reached : IsReached g 
   Wins bs = WinsWithList regions s.side s bs
 
   -- budgets that win can be reduced
-  can_reduce : (k : ℕ) (bs : List ℕ) → Wins bs → (cs : List ℕ) × AreReducedBelow regions s k bs cs
+  pub can_reduce : (k : ℕ) (bs : List ℕ) → Wins bs → (cs : List ℕ) × AreReducedBelow regions s k bs cs
   can_reduce zero bs w = (bs, refl)
   can_reduce (suc k) bs w =
       let (ds, before) = can_reduce k bs w in

@@ -1,8 +1,11 @@
 pub mod ServeLemmas
+pub mod PurseLemmas
 pub mod ReachedLemmas
 pub mod OneMoveLemmas
 pub mod ReducedLemmas
 pub mod KoLemmas
 pub mod EngineMoveLemmas
 pub mod EndLemmas
+pub mod OrderLemmas
+pub mod AnewLemmas
 pub mod PlainLemmas

@@ -20,7 +20,7 @@ use Rattle.local_value.proofs.TreeLaws.{trees-exist}
 use Rattle.short_games.proofs.OrderLaws.{same-sym, same-trans}
 use Rattle.endgame_solver.specs.Regions.{no_region, region_at}
 use Rattle.endgame_solver.specs.Solved.{Chooses}
-use Rattle.endgame_solver.proofs.WholeLaws.{decomposes_whole}
+use Rattle.endgame_solver.proofs.WholeLaws.{decided_alike, seen_from_opening}
 use Rattle.whole_budgets.specs.BudgetPlay.{IsReturningCapture, WinsWithBudgets, position_on}
 use Rattle.whole_budgets.specs.BudgetSums.{ServesFor}
 use Rattle.whole_budgets.specs.EnginePlay.{AreReducedBelow, ChoosesUnwon, IsFirstKeeping, KeepsWinning, budget_in}
@@ -29,7 +29,7 @@ use Rattle.whole_budgets.proofs.BudgetSumLaws.{winner_by_sum, wins_by_sum}
 use Rattle.whole_budgets.proofs.QuietLemmas.{stone_inside}
 use Rattle.whole_budgets.proofs.RegionLemmas.{position_is}
 use Rattle.engine_budgets.specs.EngineLaws.{IsPlainWithoutCycles, IsReached}
-use Rattle.engine_budgets.proofs.ReachedLemmas.{fits, holds_reached, keeps_reached, reached_on, trees_reached}
+use Rattle.engine_budgets.proofs.ReachedLemmas.{fits, holds_reached, keeps_reached, reached_on, rich, trees_reached}
 use Rattle.engine_budgets.proofs.ReducedLemmas.{has_nothing, now_serves, reduced_long}
 use Rattle.engine_budgets.proofs.ServeLemmas.{loses_behind}
 
@@ -75,8 +75,10 @@ module _ {g : Board} {regions : List Region} {t : Whole} (reached : IsReached g 
 
     -- the state has a winner
     has_winner : MoverWins Whole Leads t ⊎ IsLosing t
-    has_winner = (decomposes_whole g regions reached.black_prisoners reached.white_prisoners reached.komi reached.side reached.tax
-        reached.start t reached.moves reached.settled reached.cut calm reached.opening reached.plays).0
+    has_winner =
+        let (parts, seen) = seen_from_opening g reached.settled regions reached.cut reached.black_prisoners reached.white_prisoners reached.komi
+        reached.side reached.tax reached.start (rich reached) reached.moves reached.opening reached.plays in
+        (decided_alike g reached.settled regions reached.cut calm (rich reached) parts seen t (keeps_reached reached) refl).0
 
 module _ {g : Board} {regions : List Region} {t : Whole} (reached : IsReached g regions t)
     (calm : (r : Region) → Contains regions r → HasNoCycle r.touch r.cells) where

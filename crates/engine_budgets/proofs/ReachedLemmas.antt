@@ -7,6 +7,7 @@ use Rattle.go_grid.specs.Region.{Region}
 use Rattle.go_grid.proofs.DecidedLemmas.{Decided, alike, both, denied, either}
 use Rattle.region_cut.specs.LocalBoard.{HoldsPosition}
 use Rattle.whole_rules.specs.declared.states.Move.{Move}
+use Rattle.whole_rules.specs.Purses.{taken_out}
 use Rattle.whole_rules.specs.Walls.{Plays}
 use Rattle.whole_rules.specs.WholeGame.{Whole, IsMove}
 use Rattle.whole_rules.proofs.WallLaws.{Keeps}
@@ -23,6 +24,7 @@ use Rattle.whole_budgets.specs.BudgetSums.{AreTreesWith, ServesFor, WinsGame}
 use Rattle.whole_budgets.proofs.BudgetPlayLemmas.{with}
 use Rattle.whole_budgets.proofs.BudgetSumLaws.{budget_play_ends, keeps_from, reached_from, wins_by_sum}
 use Rattle.engine_budgets.specs.EngineLaws.{IsReached}
+use Rattle.engine_budgets.proofs.PurseLemmas.{leads_alike, take_more}
 
 plays_on : (s t u : Whole) (ms : List Move) (m : Move) → Plays s ms t → IsMove t m u → Plays s (ms ++ m ∷ []) u
 plays_on s t u [] m e move = (u, subst (λ z. IsMove z m u) (sym e) move, refl)
@@ -48,30 +50,57 @@ fits g h owner F E (r ∷ rs) (more G Gs) to ((cells, holds, (j, fit, tree)), on
 module _ {g : Board} {regions : List Region} {t : Whole} (reached : IsReached g regions t) where
   -- each move leads to such a state
   pub reached_on : (u : Whole) (m : Move) → IsMove t m u → IsReached g regions u
-  reached_on u m move = record {
+  reached_on u m move =
+      let alike = leads_alike t reached.untouched m u reached.less move in record {
+        black_prisoners = reached.black_prisoners;
+        white_prisoners = reached.white_prisoners;
+        komi = reached.komi;
+        side = reached.side;
+        tax = reached.tax;
+        start = reached.start;
+        moves = reached.moves ++ m ∷ [];
+        untouched = alike.behind;
+        settled = reached.settled;
+        cut = reached.cut;
+        opening = reached.opening;
+        plays = plays_on reached.start (record t { purses = reached.untouched }) (record u { purses = alike.behind }) reached.moves m reached.plays alike.move;
+        less = alike.less;
+      }
+
+  -- and so does taking points out of a purse
+  pub reached_less : (c : Colour) (n : ℕ) → IsReached g regions (record t { purses = taken_out c n t.purses })
+  reached_less c n = record {
     black_prisoners = reached.black_prisoners;
     white_prisoners = reached.white_prisoners;
     komi = reached.komi;
     side = reached.side;
     tax = reached.tax;
     start = reached.start;
-    moves = reached.moves ++ m ∷ [];
+    moves = reached.moves;
+    untouched = reached.untouched;
     settled = reached.settled;
     cut = reached.cut;
     opening = reached.opening;
-    plays = plays_on reached.start t u reached.moves m reached.plays move;
+    plays = reached.plays;
+    less = take_more c n t.purses reached.untouched reached.less;
   }
 
+  -- the same state with the purses that nothing was taken out of
+  abbrev pub rich : Whole
+  rich = record t { purses = reached.untouched }
+
   pub keeps_reached : Keeps g t
-  keeps_reached = keeps_from g reached.settled regions reached.cut reached.black_prisoners reached.white_prisoners reached.komi reached.side
-      reached.tax reached.start t reached.moves reached.opening reached.plays
+  keeps_reached =
+      let keeps = keeps_from g reached.settled regions reached.cut reached.black_prisoners reached.white_prisoners reached.komi reached.side
+      reached.tax reached.start rich reached.moves reached.opening reached.plays in
+      record { walls = keeps.walls; contested = keeps.contested }
 
   pub board_long : length t.board.cells ≡ length g.cells
   board_long = keeps_reached.walls.long
 
   pub holds_reached : (j : ℕ) → j < length regions → (cells : List Cell) × HoldsReached g reached.settled regions reached.cut t.board j cells
   holds_reached = reached_from g reached.settled regions reached.cut reached.black_prisoners reached.white_prisoners reached.komi reached.side
-      reached.tax reached.start t reached.moves reached.opening reached.plays
+      reached.tax reached.start rich reached.moves reached.opening reached.plays
 
   -- there are trees of the regions' positions with any budgets
   trees_of : (owner : Colour) (b : Region → ℕ) (rs : List Region)

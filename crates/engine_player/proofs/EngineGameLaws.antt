@@ -55,6 +55,10 @@ keeping_loses regions s t kept None left m wins has a = absurd (unwon regions s 
 keeping_loses regions s t kept (Some bs) left m wins has (cs, ds, r, a, is) =
     other_loses s t m a.keeps.moved (budgets_win regions s.side t _ a.keeps.wins)
 
+pub engine_moves_lose : (regions : List Region) (s t : Whole) (kept left : Option (List ℕ)) (m : Move) → IsWinner s s.side
+    → EngineMoves regions s kept m t left → IsLosing t
+engine_moves_lose regions s t kept left m wins (now, has, moves) = keeping_loses regions s t kept now left m wins has moves
+
 move_loses : (s t : Whole) (k left : Option Keeping) (m : Move) → IsWinner s s.side → MovesKeeping k s m t left → IsLosing t
 move_loses s t None left m wins (a, moved, is) = chosen_loses s t m (mover_wins s wins) a moved
 move_loses s t (Some keeping) left m wins (after, (kept, (now, has, a), are), is) =

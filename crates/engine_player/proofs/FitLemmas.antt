@@ -1,4 +1,4 @@
--- What a game with kos holds is fit from its opening on, and behind each move.
+-- What a game with kos holds is fit from its opening on, behind each move, and where points are taken out of a purse.
 use Rattle.std.proofs.Common.{◌≡◌, ◌≢◌, ℕ, ◌+◌, ◌*◌, ◌^◌, ◌≤◌, List, [], ◌++◌, take, drop, length, length-append, cond, arith, refl, sym, ap, ◌∙◌, subst, Option, Some, None, Ok, Err, Result, IfOk, OnErr, true, false}
 use Rattle.std.proofs.lemmas.List.{length-drop, length-take}
 use Rattle.go_grid.specs.declared.grid.Colour.{Colour}
@@ -9,15 +9,17 @@ use Rattle.sgf_go.specs.declared.settings.Setup.{Setup}
 use Rattle.sgf_go.specs.Position.{IsFit}
 use Rattle.whole_rules.specs.declared.states.Move.{Move}
 use Rattle.whole_rules.specs.declared.states.MoveError.{MoveError}
+use Rattle.whole_rules.specs.Purses.{taken_out}
 use Rattle.whole_rules.specs.WholeGame.{Applies, IsMove, Whole}
 use Rattle.whole_rules.proofs.PlainLaws.{move_turn}
 use Rattle.endgame_solver.specs.Solved.{Solved}
 use Rattle.endgame_solver.specs.declared.limits.Limits.{Limits}
 use Rattle.endgame_solver.proofs.BeginLaws.{purse_few}
+use Rattle.endgame_solver.proofs.BookkeepingLaws.{out-less}
 use Rattle.whole_budgets.specs.EnginePlay.{Serves}
 use Rattle.cycle_solver.specs.Begun.{Begun}
 use Rattle.engine_budgets.specs.EngineLaws.{IsReached}
-use Rattle.engine_budgets.proofs.ReachedLemmas.{board_long, reached_on}
+use Rattle.engine_budgets.proofs.ReachedLemmas.{board_long, reached_less, reached_on}
 use Rattle.engine_budgets.proofs.ServeLemmas.{serves_behind}
 use Rattle.engine_player.specs.declared.cycle_player.TheConstants.{MOST_MOVES}
 use Rattle.engine_player.specs.declared.kept.Kept.{Kept}
@@ -54,8 +56,10 @@ begin_fit setup limits most game black white scratch fit small (opening, cut, st
     moves = [];
     settled = fit.settled;
     cut = cut;
+    untouched = game.state.purses;
     opening = opening;
     plays = refl;
+    less = record { purses = λ c. omega arith; token = refl };
   };
   small = small;
   many = many;
@@ -143,3 +147,19 @@ module _ (game next : Solved) (black white : Kept) (scratch : List ℕ) (moves n
       (record { black_many = fit.many.black_many; white_many = ap (λ k. length k.budgets.items) is ∙ fit.many.white_many; scratch_many = fit.many.scratch_many })
       turn (forgotten game.regions White next.state white after is) refl)
   white_by_hand (Err e) after turn (is, why) forgets (kept, count) = subst (λ k. IsFitPlayer next black k scratch now) (sym kept) (unmoved is count)
+
+-- points are taken out of a purse while nothing is kept
+pub fit_less : (game : Solved) (black white : Kept) (scratch : List ℕ) (moves : ℕ) → IsFitPlayer game black white scratch moves → (c : Colour) (n : ℕ)
+    → kept_of black ≡ None → kept_of white ≡ None
+    → IsFitPlayer (record game { state = record game.state { purses = taken_out c n game.state.purses } }) black white scratch moves
+fit_less game black white scratch moves fit c n none nothing =
+    let state = record game.state { purses = taken_out c n game.state.purses } in record {
+      board = fit.board;
+      reached = reached_less fit.reached c n;
+      small = fit.small;
+      many = record { black_many = fit.many.black_many; white_many = fit.many.white_many; scratch_many = fit.many.scratch_many };
+      serve = both_serve (record game { state = state }) black white moves (subst (Serves game.regions Black state) (sym none) tt)
+          (subst (Serves game.regions White state) (sym nothing) tt);
+      few = fit.few;
+      purses = λ d. omega (arith, fit.purses d, out-less d c n game.state.purses);
+    }

@@ -32,6 +32,10 @@ abbrev pub kept_by : Colour → Keeping → Option (List ℕ)
 kept_by Black k = k.black
 kept_by White k = k.white
 
+-- neither colour keeps anything
+abbrev pub KeepsNothing : Keeping → Type 0
+KeepsNothing k = (k.black ≡ None) × (k.white ≡ None)
+
 -- the same behind a move of the colour, with what it keeps then
 abbrev pub keeping_with : Colour → Option (List ℕ) → Keeping → Keeping
 keeping_with Black left k = record k { black = left; moves = k.moves + 1 }

@@ -6,12 +6,13 @@ ghost use Rattle.region_cut.specs.Cut.{AreRegionsOfPlay};
 ghost use Rattle.sgf_go.specs.Position.{IsFit};
 ghost use Rattle.whole_rules.specs.Opening.{MayTax};
 ghost use Rattle.go_grid.specs.Board.{Board};
+ghost use Rattle.whole_rules.specs.Purses.{purse, taken_out};
 ghost use Rattle.whole_rules.specs.WholeGame.{Applies, Whole};
 ghost use Rattle.engine_budgets.specs.EngineLaws.{IsReached};
 ghost use Rattle.endgame_solver.specs.Faults.{most_steps};
 ghost use Rattle.endgame_solver.specs.Solved.{HasMove};
 ghost use Rattle.whole_budgets.specs.EnginePlay.{EngineMoves, Serves};
-ghost use Rattle.engine_player.specs.Played.{AnswersMove, BeginsPlay, EnginePlays, Played};
+ghost use Rattle.engine_player.specs.Played.{AnswersMove, BeginsPlay, EnginePlays, KeepsNothing, Played};
 ghost use Rattle.cycle_solver.specs.Keeping.{HasRoom};
 ghost use Rattle.engine_player.specs.Room.{HasMovesLeft};
 ghost use Rattle.engine_player.specs.inner.Kept.{IsPaid, IsPrepared, KeepsPrepared, kept_of};
@@ -221,6 +222,19 @@ impl CyclePlayer {
         ensures { result.now ≡ self.now.state }
     {
         self.game.whole()
+    }
+
+    /// Takes points out of a player's purse, which is no move: the side to move stays. No colour may keep anything yet.
+    pub fn take_out(&mut self, colour: Colour, points: u64)
+        requires points { points ≤ purse colour self.old.state.purses }
+        requires nothing { KeepsNothing self.old.keeping }
+        ensures { self.new ≡ record self.old {
+          state = record self.old.state {
+            purses = taken_out colour points self.old.state.purses;
+          };
+        } }
+    {
+        self.game.take_out(colour, points);
     }
 
     /// The engine's move for the side to move. None exactly where there is no move.

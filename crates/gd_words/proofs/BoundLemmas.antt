@@ -1,5 +1,5 @@
 -- The values of options are bounded.
-use Rattle.std.proofs.Common.{◌≡◌, ◌≤◌, ◌∷◌, [], ℕ, zero, suc, ℤ, List, Bool, true, false, Some, None, arith, inl, refl, sym, subst}
+use Rattle.std.proofs.Common.{◌≡◌, ◌≤◌, ◌∷◌, [], ℕ, zero, suc, ℤ, List, Bool, true, false, Some, None, arith, refl, sym, subst}
 use Rattle.std.specs.Prelude.{Option, IfSome, ◌+◌, ◌*◌}
 use Rattle.std.specs.List.{Contains}
 use Rattle.std.proofs.lemmas.Int.{ints}
@@ -14,7 +14,7 @@ use Rattle.gd_words.specs.declared.choice.Choice.TheVariants.{Komi, After, Black
 use Rattle.gd_words.specs.declared.chosen.Chosen.{Chosen}
 use Rattle.gd_words.specs.Choice.{IsChoiceValue}
 use Rattle.gd_words.specs.Task.{Task}
-use Rattle.gd_words.specs.Job.{Spell, GivesOption, AreChoices, Conflict, Job, job_of}
+use Rattle.gd_words.specs.Job.{Spell, GivesOption, AreChoices, TaxTerritory, Job, job_of}
 use Rattle.gd_words.specs.Bounds.{IsInRanges}
 
 one_half : (bytes : List ℕ) (digits more : ℕ) → IsKomiFraction bytes digits more → more ≤ 1
@@ -54,8 +54,8 @@ declares_none (Some true) None apart taxed = refl
 declares_none (Some false) territory apart taxed = cc
 declares_none None territory apart taxed = cc
 
-pub within : (task : Task) (words : List (List ℕ)) (o : Chosen) (job : Job) → AreChoices task words o → ¬ Conflict o → job ≡ job_of task o → IsInRanges job
-within task words o job a agree j = subst IsInRanges (sym j) (record {
+pub within : (task : Task) (words : List (List ℕ)) (o : Chosen) (job : Job) → AreChoices task words o → ¬ TaxTerritory o → job ≡ job_of task o → IsInRanges job
+within task words o job a untaxed j = subst IsInRanges (sym j) (record {
   komi = given_value IsInRange Komi words a.choices o.komi a.spelt a.said.komi in_range;
   after = given_value (λ n. n ≤ MOST_MOVES) After words a.choices o.after a.spelt a.said.after (λ word n v. v.most);
   black_prisoners = or_default (λ n. n ≤ MOST_PRISONERS) o.black_prisoners 0 (omega arith) (given_value (λ n. n ≤ MOST_PRISONERS) BlackPrisoners words a.choices o.black_prisoners a.spelt a.said.black_prisoners (λ word n v. v.most));
@@ -64,5 +64,5 @@ within task words o job a agree j = subst IsInRanges (sym j) (record {
   few_positions = or_default (λ n. n ≤ MOST_POSITIONS) o.positions 100000 (omega arith) (given_value (λ n. n ≤ MOST_POSITIONS) Positions words a.choices o.positions a.spelt a.said.positions (λ word n v. v.most));
   some_parts = or_default (λ n. 1 ≤ n) o.parts 500 (omega arith) (given_value (λ n. 1 ≤ n) Parts words a.choices o.parts a.spelt a.said.parts (λ word n v. v.least));
   few_parts = or_default (λ n. n ≤ MOST_PARTS) o.parts 500 (omega arith) (given_value (λ n. n ≤ MOST_PARTS) Parts words a.choices o.parts a.spelt a.said.parts (λ word n v. v.most));
-  untaxed = declares_none o.tax o.territory (λ t. agree (inl t));
+  untaxed = declares_none o.tax o.territory untaxed;
 })

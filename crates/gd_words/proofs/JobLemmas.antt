@@ -12,7 +12,7 @@ use Rattle.gd_words.specs.Choice.{name_of}
 use Rattle.gd_words.specs.declared.job.Question.{Question}
 use Rattle.gd_words.specs.declared.job.Question.TheVariants.{Board, Line, Margin, Moves, Safe, Solve, Values, WithCycles}
 use Rattle.gd_words.specs.Task.{Task, ask, play, trial, calc, gtp, AreFor, BeginWith, IsWordOf}
-use Rattle.gd_words.specs.Job.{GivesOption, Say, AreChoices, Conflict, Job, job_of, IsJob, IsOnlyJob}
+use Rattle.gd_words.specs.Job.{GivesOption, Say, AreChoices, TaxTerritory, Job, job_of, IsJob, IsOnlyJob}
 use Rattle.gd_words.specs.inner.Reading.{IsJobOf}
 use Rattle.gd_words.proofs.NameLemmas.{apart}
 use Rattle.gd_words.proofs.OneOptionLemmas.{one_number}
@@ -149,14 +149,14 @@ one_job words v w a b =
     a.says ∙ ap₂ job_of p.0 (one_choices b.spoken b.rest a.chosen b.chosen own b.options) ∙ sym b.says
 
 pub job_made : (words rest : List (List ℕ)) (task : Task) (job : Job) → BeginWith task words rest → IsJobOf task rest job → IsOnlyJob words job
-job_made words rest task job t (o, a, agree, j) =
-    let said : IsJob words (job_of task o) = record { spoken = task; rest = rest; task = t; chosen = o; options = a; agree = agree; says = refl } in
+job_made words rest task job t (o, a, untaxed, j) =
+    let said : IsJob words (job_of task o) = record { spoken = task; rest = rest; task = t; chosen = o; options = a; untaxed = untaxed; says = refl } in
     subst (IsOnlyJob words) (sym j) (record { said = said; only = λ other h. one_job words other (job_of task o) h said })
 
-pub no_choices : (words rest : List (List ℕ)) (task : Task) (job : Job) → BeginWith task words rest → ((o : Chosen) → AreChoices task rest o → Conflict o) → ¬ IsJob words job
+pub no_choices : (words rest : List (List ℕ)) (task : Task) (job : Job) → BeginWith task words rest → ((o : Chosen) → AreChoices task rest o → TaxTerritory o) → ¬ IsJob words job
 no_choices words rest task job t none a =
     let p = one_beginning words a.rest rest a.spoken task a.task t in
-    a.agree (none a.chosen (subst (λ r. AreChoices task r a.chosen) p.1 (subst (λ u. AreChoices u a.rest a.chosen) p.0 a.options)))
+    a.untaxed (none a.chosen (subst (λ r. AreChoices task r a.chosen) p.1 (subst (λ u. AreChoices u a.rest a.chosen) p.0 a.options)))
 
 -- words that begin with those of no task
 pub no_task : (words rest : List (List ℕ)) (word argument : List ℕ) (job : Job) → words ≡ word ∷ argument ∷ rest → word ≢ codes "gtp" → ((task : Task) → ¬ AreFor word argument task) → ¬ IsJob words job

@@ -1,6 +1,6 @@
 -- The grammar of the command line, and the job that its words say:
 --     words = ( "solve" | "safe" | "values" | "board" | "margin" | "moves" | "line" | "play" ) file { name value } | "trial" number | "calc" expression { name value } | "gtp" { name value }
-use Rattle.std.specs.Prelude.{◌≡◌, ◌≢◌, ◌⊎◌, ◌∷◌, [], ⊤, ℕ, List, Bool, true, false, Option, Some, None}
+use Rattle.std.specs.Prelude.{◌≡◌, ◌≢◌, ◌∷◌, [], ⊤, ℕ, List, Bool, true, false, Option, Some, None}
 use Rattle.std.specs.List.{All, AllPairs, Contains}
 use Rattle.std.specs.Option.{unwrap_or}
 use Rattle.go_grid.specs.declared.grid.Colour.{Colour}
@@ -49,14 +49,6 @@ pub record AreChoices (task : Task) (words : List (List ℕ)) (chosen : Chosen) 
 abbrev pub TaxTerritory : Chosen → Type 0
 TaxTerritory chosen = (chosen.tax ≡ Some true) × (chosen.territory ≡ Some true)
 
--- the options admit cycles to an engine that keeps a board, which doesn't play kos
-abbrev pub KeepKos : Chosen → Type 0
-KeepKos chosen = (chosen.cycles ≡ Some true) × (chosen.keep_board ≡ Some true)
-
--- two of the options don't go together
-abbrev pub Conflict : Chosen → Type 0
-Conflict chosen = TaxTerritory chosen ⊎ KeepKos chosen
-
 -- a job: what is asked for, of which position, within which limits, with which colour for the engine, with or without a tax, with cycles
 -- admitted or without, and whether the engine of `gtp` keeps a board
 pub record Job : Type 0 where
@@ -89,14 +81,14 @@ job_of task chosen = record {
   keep_board = unwrap_or chosen.keep_board false;
 }
 
--- the words say the job: those of a task, and then its options, no two of which conflict
+-- the words say the job: those of a task, and then its options, which don't tax declared points
 pub record IsJob (words : List (List ℕ)) (job : Job) : Type 0 where
   pub spoken : Task
   pub rest : List (List ℕ)
   pub task : BeginWith spoken words rest
   pub chosen : Chosen
   pub options : AreChoices spoken rest chosen
-  pub agree : ¬ Conflict chosen
+  pub untaxed : ¬ TaxTerritory chosen
   pub says : job ≡ job_of spoken chosen
 
 -- the words say no job

@@ -2,7 +2,7 @@
 
 ghost use Rattle.std.specs.Prelude.{◌≡◌, ◌↔◌, true, None, IfSome, IfNone};
 ghost use Rattle.gd_words.specs.inner.Reading.{IsWith};
-ghost use Rattle.gd_words.specs.Job.{AreChoices, Conflict, KeepKos, TaxTerritory, job_of};
+ghost use Rattle.gd_words.specs.Job.{AreChoices, TaxTerritory, job_of};
 ghost use Rattle.gd_words.specs.Viewed.{task_of, texts, viewed};
 ghost use Rattle.gd_words.specs.declared.chosen.Chosen.{Chosen};
 
@@ -63,24 +63,10 @@ impl Chosen {
     }
 
     /// Whether there is a tax on groups that would have to pay out of declared points.
-    fn taxes_territory(&self) -> bool
+    pub(crate) fn taxes_territory(&self) -> bool
         ensures { (result ≡ true) ↔ TaxTerritory self.now }
     {
         matches!((self.tax, self.territory), (Some(true), Some(true)))
-    }
-
-    /// Whether cycles are admitted to an engine that keeps a board.
-    fn keeps_kos(&self) -> bool
-        ensures { (result ≡ true) ↔ KeepKos self.now }
-    {
-        matches!((self.cycles, self.keep_board), (Some(true), Some(true)))
-    }
-
-    /// Whether two of the options don't go together.
-    pub(crate) fn conflicts(&self) -> bool
-        ensures { (result ≡ true) ↔ Conflict self.now }
-    {
-        self.taxes_territory() || self.keeps_kos()
     }
 
     /// The job of a command with these options. What they leave open has its default.

@@ -2,7 +2,7 @@
 
 ghost use Rattle.std.specs.Prelude.{◌≡◌, ◌↔◌, true, codes, IfOk, IfSome, IfNone, OnErr};
 ghost use Rattle.gd_words.specs.Bounds.{IsInRanges};
-ghost use Rattle.gd_words.specs.Job.{AreChoices, IsOnlyJob, Conflict, SayNoJob};
+ghost use Rattle.gd_words.specs.Job.{AreChoices, IsOnlyJob, SayNoJob, TaxTerritory};
 ghost use Rattle.gd_words.specs.inner.Reading.{IsJobOf};
 ghost use Rattle.gd_words.specs.Viewed.{task_of, texts, viewed};
 ghost use Rattle.gd_words.specs.declared.chosen.Chosen.{Chosen};
@@ -28,10 +28,10 @@ fn read_options<'a>(command: Command<'a>, words: &[&str]) -> Option<Job<'a>>
     ensures job { IfSome result (λ job. IsJobOf (task_of command.entry) (texts words.now)
         (viewed job)) }
     ensures none { IfNone result ((chosen : Chosen)
-        → AreChoices (task_of command.entry) (texts words.now) chosen → Conflict chosen) }
+        → AreChoices (task_of command.entry) (texts words.now) chosen → TaxTerritory chosen) }
 {
     let chosen = read_choices(&command, words)?;
-    if chosen.conflicts() {
+    if chosen.taxes_territory() {
         return None;
     }
     Some(chosen.job(command))
@@ -56,7 +56,7 @@ fn read_job<'a>(words: &[&'a str]) -> Option<Job<'a>>
 }
 
 /// The job that the words of a command line say: `solve`, `safe`, `values`, `board`, `margin`, `moves`, `line` or `play` with a file and
-/// options, each a name and a value, but not both `--tax yes` and `--territory yes`, nor `--board yes` and `--cycles yes`; `trial` with a number; `calc` with an expression and
+/// options, each a name and a value, but not both `--tax yes` and `--territory yes`; `trial` with a number; `calc` with an expression and
 /// options; or `gtp` with options. `Usage` comes exactly where the words have no such form.
 pub fn read<'a>(words: &[&'a str]) -> Result<Job<'a>, Usage>
     ensures job { IfOk result (λ job. IsOnlyJob (texts words.now) (viewed job)) }

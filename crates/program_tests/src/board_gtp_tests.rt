@@ -33,6 +33,17 @@ const REFUSED_TEXT: &str =
     ? cannot load file\n\n? cannot undo\n\n? syntax error\n\n? syntax error\n\n? board not empty\n\n\
     ? syntax error\n\n? syntax error\n\n= black\n\n= white\n\n? unknown command\n\n= true\n\n";
 
+/// Kos: on the first board nobody wins until White passes, on the second the engine doesn't take back for ever, and where no ko can arise
+/// all is as without them.
+const KOS: &[u8] =
+    b"loadsgf e\nreg_genmove b\ngenmove b\ngenmove w\ngenmove b\nplay w pass\ngenmove b\ncaptures b\nplay w pass\n\
+    genmove b\nloadsgf k\ngenmove b\ngenmove w\nundo\nmove_history\nloadsgf d\ngenmove b\ngenmove w\nplay w pass\n\
+    play w pass\ngenmove b\n";
+
+const KOS_TEXT: &str =
+    "= black\n\n= F2\n\n= F2\n\n= E2\n\n= F2\n\n= \n\n= E2\n\n= 1\n\n= \n\n= PASS\n\n= black\n\n= PASS\n\n= F3\n\n\
+    = \n\n= black PASS\n\n= black\n\n= F2\n\n= PASS\n\n= \n\n= \n\n? cannot solve: purse\n\n";
+
 const NO_FIRST_LOAD: Failing = Failing {
     load: 0,
     ..NOTHING_FAILS
@@ -43,7 +54,7 @@ const NO_SECOND_READ: Failing = Failing {
     ..NOTHING_FAILS
 };
 
-const SESSIONS: [FailingRow; 7] = [
+const SESSIONS: [FailingRow; 8] = [
     (
         "gtp~--board~yes",
         PLAYED,
@@ -94,11 +105,19 @@ const SESSIONS: [FailingRow; 7] = [
     ),
     (
         "gtp~--board~yes~--cycles~yes",
-        b"name\n",
+        KOS,
+        2_000,
+        NOTHING_FAILS,
+        Status::Done,
+        KOS_TEXT,
+    ),
+    (
+        "gtp~--cycles~yes~--board~yes~--positions~1",
+        b"genmove w\nloadsgf d\ngenmove b\n",
         500,
         NOTHING_FAILS,
-        Status::Usage,
-        "fault usage\n",
+        Status::Done,
+        "? cannot solve: region A19 points 361\n\n= black\n\n? cannot solve: region E2 positions over 1\n\n",
     ),
 ];
 

@@ -1,5 +1,5 @@
 -- What single orders leave behind.
-use Rattle.std.specs.Prelude.{◌≡◌, ◌⊎◌, ◌+◌, ◌<◌, ◌≤◌, ◌++◌, ◌∷◌, [], ◌^◌, ◌*◌, ℕ, List, All, length, Option, Some, None}
+use Rattle.std.specs.Prelude.{◌≡◌, ◌⊎◌, ◌+◌, ◌<◌, ◌≤◌, ◌++◌, ◌∷◌, [], ◌^◌, ◌*◌, ℕ, List, Bool, All, length, Option, Some, None}
 use Rattle.go_grid.specs.Board.{Board}
 use Rattle.go_grid.specs.declared.grid.Colour.{Colour}
 use Rattle.go_play.specs.Place.{IsSameGround}
@@ -72,13 +72,13 @@ AreRead columns rows words None = IsSomeAstray columns rows words
 abbrev pub IsDone : BoardOrder → List ℕ → BoardState → List ℕ → BoardState → Type 0
 IsDone order id s reply u = (said : Said) × Does order s said u × (reply ≡ reply_text id said)
 
--- the reply to a colour that asks for the engine's move, and the state after it
-abbrev pub IsGenerated : Limits → Colour → List ℕ → BoardState → List ℕ → BoardState → Type 0
-IsGenerated limits c id s reply u = (said : Said) × Generates limits c s said u × (reply ≡ reply_text id said)
+-- the reply to a colour that asks for the engine's move, with cycles admitted or without, and the state after it
+abbrev pub IsGenerated : Bool → Limits → Colour → List ℕ → BoardState → List ℕ → BoardState → Type 0
+IsGenerated cycles limits c id s reply u = (said : Said) × Generates cycles limits c s said u × (reply ≡ reply_text id said)
 
 -- the same where the move isn't made
-abbrev pub IsSuggested : Limits → Colour → List ℕ → BoardState → List ℕ → Type 0
-IsSuggested limits c id s reply = (said : Said) × Suggests limits c s said × (reply ≡ reply_text id said)
+abbrev pub IsSuggested : Bool → Limits → Colour → List ℕ → BoardState → List ℕ → Type 0
+IsSuggested cycles limits c id s reply = (said : Said) × Suggests cycles limits c s said × (reply ≡ reply_text id said)
 
 -- a komi that is ordered is in range
 abbrev pub HasKomiInRange : BoardOrder → Type 0

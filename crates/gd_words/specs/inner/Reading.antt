@@ -4,7 +4,7 @@ use Rattle.gd_words.specs.declared.choice.Choice.{Choice}
 use Rattle.gd_words.specs.declared.choice.Choice.TheVariants.{Komi, Turn, After, BlackPrisoners, WhitePrisoners, Positions, Parts, Engine, Tax, Territory, Cycles, KeepBoard}
 use Rattle.gd_words.specs.declared.chosen.Chosen.{Chosen}
 use Rattle.gd_words.specs.Task.{Task}
-use Rattle.gd_words.specs.Job.{AreChoices, Conflict, Job, job_of}
+use Rattle.gd_words.specs.Job.{AreChoices, Job, TaxTerritory, job_of}
 
 -- `more` says the option besides, which `o` doesn't say
 abbrev pub IsWith : Chosen → Choice → Chosen → Type 0
@@ -21,6 +21,6 @@ IsWith o (Territory declared) more = (o.territory ≡ None) × (more ≡ record 
 IsWith o (Cycles admitted) more = (o.cycles ≡ None) × (more ≡ record o { cycles = Some admitted })
 IsWith o (KeepBoard kept) more = (o.keep_board ≡ None) × (more ≡ record o { keep_board = Some kept })
 
--- the words are options of the task, no two of which conflict, and the job is that of the task with them
+-- the words are options of the task which don't tax declared points, and the job is that of the task with them
 abbrev pub IsJobOf : Task → List (List ℕ) → Job → Type 0
-IsJobOf task words job = (chosen : Chosen) × AreChoices task words chosen × (¬ Conflict chosen) × (job ≡ job_of task chosen)
+IsJobOf task words job = (chosen : Chosen) × AreChoices task words chosen × (¬ TaxTerritory chosen) × (job ≡ job_of task chosen)

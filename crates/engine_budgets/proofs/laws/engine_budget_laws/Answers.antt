@@ -1,3 +1,4 @@
+use Rattle.engine_budgets.proofs.AnewLemmas.{won_games_end_anew}
 use Rattle.engine_budgets.proofs.EndLemmas.{won_games_end}
 use Rattle.engine_budgets.proofs.KoLemmas.{keeps_simple_ko}
 use Rattle.engine_budgets.proofs.OneMoveLemmas.{has_one_move}
@@ -7,6 +8,9 @@ use Rattle.engine_budgets.proofs.laws.engine_budget_laws.Goals as goal
 
 pub returns-clause-ends : goal.returns-clause-ends
 returns-clause-ends c = won_games_end
+
+pub returns-clause-anew : goal.returns-clause-anew
+returns-clause-anew c = won_games_end_anew
 
 pub returns-clause-ko : goal.returns-clause-ko
 returns-clause-ko c = keeps_simple_ko

@@ -20,11 +20,11 @@ returns-in-GenMove-clause-obeyed g c =
     let inside = c.self.inside in let u = c.generate.new.self in let colour = c.in-GenMove.colour in let id = c.args.id.now in
     generated_obeyed inside.limits inside.loads inside.session u c.args.self.now c.self.view_is (g.H.Shelf.files c.args.shelf.now) (g.H.Shelf.faults c.args.shelf.now) id
     (order_of c.args.request) colour (ap order_of c.in-GenMove.is) c.generate.result
-    (subst (λ l. IfOk c.generate.result (λ reply. IsGenerated l colour id inside.session reply u)) c.of_game-limits.ensures c.generate.ensures.generated)
+    (subst (λ l. IfOk c.generate.result (λ reply. IsGenerated inside.limits.cycles l colour id inside.session reply u)) c.of_game-limits.ensures c.generate.ensures.generated)
 
 pub returns-in-RegGenMove-clause-obeyed : goal.returns-in-RegGenMove-clause-obeyed
 returns-in-RegGenMove-clause-obeyed g c =
     let inside = c.self-in-RegGenMove.inside in let colour = c.in-RegGenMove.colour in let id = c.args.id.now in
     suggested_obeyed inside.limits inside.loads inside.session inside.session c.args.self.now c.self-in-RegGenMove.view_is (g.H.Shelf.files c.args.shelf.now) (g.H.Shelf.faults c.args.shelf.now) id
     (order_of c.args.request) colour (ap order_of c.in-RegGenMove.is) c.suggest.result
-    (subst (λ l. IfOk c.suggest.result (λ reply. IsSuggested l colour id inside.session reply)) c.of_game-limits-in-RegGenMove.ensures c.suggest.ensures.suggested)
+    (subst (λ l. IfOk c.suggest.result (λ reply. IsSuggested inside.limits.cycles l colour id inside.session reply)) c.of_game-limits-in-RegGenMove.ensures c.suggest.ensures.suggested)
