@@ -55,7 +55,7 @@ fn attacked(board: &mut Board, stone: Point) -> Result<Outcome, AllocError> {
 }
 
 /// A board by its columns and rows, its cells, a stone, and what comes of the attack on it.
-const ATTACKS: [(u8, u8, &[u8], u16, Outcome); 8] = [
+static ATTACKS: [(u8, u8, &[u8], u16, Outcome); 8] = [
     (3, 2, b".X.XXX", 1, Outcome::Alive),
     (3, 2, b".XXXXX", 1, Outcome::Taken(1)),
     (4, 1, b".X..", 1, Outcome::Taken(2)),
@@ -68,14 +68,52 @@ const ATTACKS: [(u8, u8, &[u8], u16, Outcome); 8] = [
     (24, 1, b".X.X.X.X.X.X.X.X.X.X.X.X", 1, Outcome::Taken(12)),
 ];
 
-#[test]
-fn attacks(rt: HostRuntime) -> Result<(), AllocError> {
-    let alloc = rt.alloc();
-    for (columns, height, drawing, stone, want) in ATTACKS {
-        let mut board = board(alloc, columns, height, drawing)?;
-        assert!(rt; attacked(&mut board, Point(stone))? == want);
+/// The outcome of the attack on the black stone at a point of a drawn board.
+fn attacked_on(
+    alloc: Global,
+    columns: u8,
+    rows: u8,
+    drawing: &[u8],
+    stone: Point,
+) -> Result<Outcome, AllocError> {
+    let mut board = board(alloc, columns, rows, drawing)?;
+    attacked(&mut board, stone)
+}
+
+/// The first row that isn't so.
+fn wrong_attack(alloc: Global) -> Option<usize> {
+    for (at, row) in ATTACKS.iter().enumerate() {
+        if attacked_on(alloc, row.0, row.1, row.2, Point(row.3)) != Ok(row.4) {
+            return Some(at);
+        }
     }
-    Ok(())
+    None
+}
+
+#[test]
+fn attacks(rt: HostRuntime) {
+    assert_eq!(rt; wrong_attack(rt.alloc()), None);
+}
+
+/// Whether a stone of the colour is gone from a copy of the board after the placings, which are all legal.
+fn is_taken(
+    board: &Board,
+    stone: Point,
+    colour: Colour,
+    placings: &[Point],
+) -> Result<bool, AllocError> {
+    let mut left = board.copy()?;
+    Ok(takes(&mut left, stone, colour, placings))
+}
+
+/// Whether a stone of the colour is gone from the board after the placings, which are all legal.
+fn takes(board: &mut Board, stone: Point, colour: Colour, placings: &[Point]) -> bool {
+    for point in placings {
+        if point.0 >= board.size().area() || place(board, *point, colour.other()).is_err() {
+            return false;
+        }
+    }
+    stone.0 < board.size().area() && board.colour_at(stone) != Some(colour)
 }
 
 /// Whether the stone at a point is alive, or is taken by placings that are all legal.
@@ -94,17 +132,7 @@ fn is_answered(
         return Ok(!alive);
     };
     match attacks.on(alloc, board, stone) {
-        Ok(placings) => {
-            let mut left = board.copy()?;
-            for point in &placings {
-                if point.0 >= left.size().area()
-                    || place(&mut left, *point, colour.other()).is_err()
-                {
-                    return Ok(false);
-                }
-            }
-            Ok(!alive && stone.0 < left.size().area() && left.colour_at(stone) != Some(colour))
-        }
+        Ok(placings) => Ok(!alive && is_taken(board, stone, colour, &placings)?),
         Err(AttackError::Alive) => Ok(alive),
         Err(AttackError::Memory(cause)) => Err(cause),
     }
@@ -165,14 +193,28 @@ fn scattered(alloc: Global, columns: u8, rows: u8, seed: u64) -> Result<Board, A
     Ok(board)
 }
 
-#[test]
-fn scattered_boards(rt: HostRuntime) -> Result<(), AllocError> {
-    let alloc = rt.alloc();
-    for (columns, rows, boards) in [(3, 3, 3000), (4, 4, 2000), (5, 3, 2000), (25, 25, 6)] {
-        for seed in 0..boards {
-            let board = scattered(alloc, columns, rows, seed)?;
-            assert!(rt; answered(alloc, &board)?);
+/// Columns and rows, and how many boards of the size are scattered.
+static SCATTERED: [(u8, u8, u64); 4] = [(3, 3, 3000), (4, 4, 2000), (5, 3, 2000), (25, 25, 6)];
+
+/// Whether each stone of a scattered board is answered.
+fn is_right(alloc: Global, columns: u8, rows: u8, seed: u64) -> Result<bool, AllocError> {
+    let board = scattered(alloc, columns, rows, seed)?;
+    answered(alloc, &board)
+}
+
+/// The first of so many scattered boards of a size with a stone that isn't answered.
+fn wrong_seed(alloc: Global, row: &(u8, u8, u64)) -> Option<u64> {
+    for seed in 0..row.2 {
+        if is_right(alloc, row.0, row.1, seed) != Ok(true) {
+            return Some(seed);
         }
     }
-    Ok(())
+    None
+}
+
+#[test]
+fn scattered_boards(rt: HostRuntime) {
+    for row in &SCATTERED {
+        assert_eq!(rt; wrong_seed(rt.alloc(), row), None);
+    }
 }

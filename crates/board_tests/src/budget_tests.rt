@@ -54,7 +54,7 @@ const STEPS: Drawing = Drawing {
 };
 
 /// For the drawing of a region and a colour, the value of the opening with each budget up to the least steady one.
-const LAYERS: [(Drawing, Colour, &str); 10] = [
+static LAYERS: [(Drawing, Colour, &str); 10] = [
     (CORRIDOR, Colour::Black, "{1|*}"),
     (CORRIDOR, Colour::White, "{1|*}"),
     (HALF_POINT, Colour::Black, "{*|-1}"),
@@ -71,7 +71,7 @@ const LAYERS: [(Drawing, Colour, &str); 10] = [
 const PARTS: BudgetError = BudgetError::Form(FormError::Parts);
 
 /// With a most budget and a limit on parts, why there are no values.
-const REFUSALS: [(Drawing, Colour, u8, u32, BudgetError); 8] = [
+static REFUSALS: [(Drawing, Colour, u8, u32, BudgetError); 8] = [
     (OPEN, Colour::Black, 0, 500, BudgetError::Captures),
     (STEPS, Colour::Black, 0, 500, BudgetError::Captures),
     (STEPS, Colour::White, 1, 500, BudgetError::Captures),
@@ -155,17 +155,31 @@ fn are_values(alloc: Global, store: &mut Store, values: &SteadyValues, texts: &s
         && values.with(100).as_slice() == values.values().as_slice()
 }
 
-/// The first row of the table with layers that isn't so, with a most budget of four.
+/// Whether the drawn region has the values of the texts, with a most budget of four.
+fn has_layers(alloc: Global, store: &mut Store, row: &(Drawing, Colour, &str)) -> bool {
+    match values_of::<Brand>(alloc, Blank::new(1), store, (row.0, row.1, 4, 500)) {
+        Ok(values) => are_values(alloc, store, &values, row.2),
+        Err(_error) => false,
+    }
+}
+
+/// Whether the drawn region has no values, for this reason.
+fn has_refusal(
+    alloc: Global,
+    store: &mut Store,
+    row: &(Drawing, Colour, u8, u32, BudgetError),
+) -> bool {
+    match values_of::<Brand>(alloc, Blank::new(1), store, (row.0, row.1, row.2, row.3)) {
+        Ok(_values) => false,
+        Err(error) => error == row.4,
+    }
+}
+
+/// The first row of the table with layers that isn't so.
 fn wrong_layers(alloc: Global) -> Option<usize> {
-    for (at, (drawn, owner, texts)) in LAYERS.iter().enumerate() {
-        let mut store = Store::new(alloc);
-        match values_of::<Brand>(alloc, Blank::new(1), &mut store, (*drawn, *owner, 4, 500)) {
-            Ok(values) => {
-                if !are_values(alloc, &mut store, &values, texts) {
-                    return Some(at);
-                }
-            }
-            Err(_error) => return Some(at),
+    for (at, row) in LAYERS.iter().enumerate() {
+        if !has_layers(alloc, &mut Store::new(alloc), row) {
+            return Some(at);
         }
     }
     None
@@ -173,20 +187,9 @@ fn wrong_layers(alloc: Global) -> Option<usize> {
 
 /// The first row of the table of refusals that isn't so.
 fn wrong_refusal(alloc: Global) -> Option<usize> {
-    for (at, (drawn, owner, most, limit, want)) in REFUSALS.iter().enumerate() {
-        let mut store = Store::new(alloc);
-        match values_of::<Brand>(
-            alloc,
-            Blank::new(1),
-            &mut store,
-            (*drawn, *owner, *most, *limit),
-        ) {
-            Ok(_values) => return Some(at),
-            Err(error) => {
-                if error != *want {
-                    return Some(at);
-                }
-            }
+    for (at, row) in REFUSALS.iter().enumerate() {
+        if !has_refusal(alloc, &mut Store::new(alloc), row) {
+            return Some(at);
         }
     }
     None

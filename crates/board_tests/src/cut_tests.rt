@@ -27,35 +27,16 @@ fn regions_of(alloc: Global, board: &Board) -> Result<Vec<Region>, AllocError> {
     settled_regions(alloc, board)
 }
 
-/// A board, the number of its regions of play, and of the first of them the points and what is next to
-/// each. That is six letters: X and O for alive stones, then the places above, left, right and below.
-#[derive(Drop)]
-struct Worked {
-    columns: u8,
-    rows: u8,
-    drawing: &'static [u8],
-    regions: usize,
-    first: &'static [u16],
-    touch: &'static [&'static [u8; 6]],
-}
-
-/// A row of the table of boards.
-fn row(
-    (columns, rows): (u8, u8),
-    drawing: &'static [u8],
-    regions: usize,
-    first: &'static [u16],
-    touch: &'static [&'static [u8; 6]],
-) -> Worked {
-    Worked {
-        columns,
-        rows,
-        drawing,
-        regions,
-        first,
-        touch,
-    }
-}
+/// Columns and rows of a board and its drawing, the number of its regions of play, and of the first of them the points and
+/// what is next to each. That is six letters: X and O for alive stones, then the places above, left, right and below.
+type Worked = (
+    u8,
+    u8,
+    &'static [u8],
+    usize,
+    &'static [u16],
+    &'static [&'static [u8; 6]],
+);
 
 /// Whether the list has just these points, in this order.
 fn same(points: &[Point], want: &[u16]) -> bool {
@@ -90,55 +71,72 @@ fn same_touch(touch: &[Touch], want: &[&[u8; 6]]) -> bool {
             .all(|(near, letters)| is_touch(near, letters))
 }
 
+/// Whether there are so many regions, and such a first one.
+fn are_cut(regions: &[Region], row: &Worked) -> bool {
+    let first = match regions.first() {
+        Some(region) => same(&region.points, row.4) && same_touch(&region.touch, row.5),
+        None => row.4.is_empty(),
+    };
+    regions.len() == row.3 && first
+}
+
 /// Whether the board has so many regions, and such a first one.
 fn is_cut(alloc: Global, row: &Worked) -> Result<bool, AllocError> {
-    let board = board(alloc, row.columns, row.rows, row.drawing)?;
+    let board = board(alloc, row.0, row.1, row.2)?;
     let regions = regions_of(alloc, &board)?;
-    let first = match regions.first() {
-        Some(region) => { same(&region.points, row.first) && same_touch(&region.touch, row.touch) }
-        None => row.first.is_empty(),
-    };
-    Ok(regions.len() == row.regions && first)
+    Ok(are_cut(&regions, row))
 }
 
-#[test]
-fn cuts(rt: HostRuntime) -> Result<(), AllocError> {
-    let rows = [
-        row(
-            (9, 2),
-            b".X.X.O.O.XXXX.OOOO",
-            1,
-            &[4, 13],
-            &[b"XO...1", b"XO0..."],
-        ),
-        row((8, 2), b".X.XO.O.XXXXOOOO", 0, &[], &[]),
-        row((10, 2), b".X.XX.O.O.XXXX.OOOOO", 2, &[5], &[b"XO...."]),
-        row(
-            (10, 3),
-            b".X.XXXO.O.XXXX..OOOOXXXXXXOOOO",
-            1,
-            &[14, 15],
-            &[b"X...1.", b"XO.0.."],
-        ),
-        row((1, 1), b".", 1, &[0], &[b"......"]),
-    ];
-    for (at, row) in rows.iter().enumerate() {
-        assert!(rt; is_cut(rt.alloc(), row)?, "at {at}");
+static WORKED: [Worked; 5] = [
+    (
+        9,
+        2,
+        b".X.X.O.O.XXXX.OOOO",
+        1,
+        &[4, 13],
+        &[b"XO...1", b"XO0..."],
+    ),
+    (8, 2, b".X.XO.O.XXXXOOOO", 0, &[], &[]),
+    (10, 2, b".X.XX.O.O.XXXX.OOOOO", 2, &[5], &[b"XO...."]),
+    (
+        10,
+        3,
+        b".X.XXXO.O.XXXX..OOOOXXXXXXOOOO",
+        1,
+        &[14, 15],
+        &[b"X...1.", b"XO.0.."],
+    ),
+    (1, 1, b".", 1, &[0], &[b"......"]),
+];
+
+/// The first row that isn't so.
+fn wrong_row(alloc: Global) -> Option<usize> {
+    for (at, row) in WORKED.iter().enumerate() {
+        if is_cut(alloc, row) != Ok(true) {
+            return Some(at);
+        }
     }
-    Ok(())
+    None
 }
 
-/// The largest board without stones is one region.
 #[test]
-fn a_whole_board(rt: HostRuntime) -> Result<(), AllocError> {
-    let alloc = rt.alloc();
+fn cuts(rt: HostRuntime) {
+    assert_eq!(rt; wrong_row(rt.alloc()), None);
+}
+
+/// The numbers of a whole empty board's regions and of the first one's points.
+fn whole_regions(alloc: Global) -> Result<(usize, usize), AllocError> {
     let board = board(alloc, 25, 25, b"")?;
     let regions = regions_of(alloc, &board)?;
     let points = match regions.first() {
         Some(region) => region.points.len(),
         None => 0,
     };
-    assert_eq!(rt; regions.len(), 1);
-    assert_eq!(rt; points, 625);
-    Ok(())
+    Ok((regions.len(), points))
+}
+
+/// The largest board without stones is one region.
+#[test]
+fn a_whole_board(rt: HostRuntime) {
+    assert!(rt; whole_regions(rt.alloc()) == Ok((1, 625)));
 }

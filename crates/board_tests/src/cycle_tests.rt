@@ -109,32 +109,50 @@ fn leads_to(
     Ok(places)
 }
 
-/// The edges of a region's positions, the first thousand of them.
-fn edges_of<L: Ledger>(
+/// Positions that were found, and where the moves of the first of them lead to.
+#[derive(Drop)]
+struct Search {
+    found: Vec<Local>,
+    moves: Vec<LocalMove>,
+    edges: Vec<Vec<usize>>,
+}
+
+/// Notes where the moves of a position lead to.
+fn note_edges<L: Ledger>(
+    alloc: Global,
+    links: &Links,
+    from: Local,
+    steps: &mut Steps<L>,
+    search: &mut Search,
+) -> Result<(), AllocError> {
+    list_moves(links, from, steps, &mut search.moves)?;
+    let places = leads_to(alloc, &mut search.found, &search.moves)?;
+    Ok(search.edges.push(places)?)
+}
+
+/// Notes the edges of a region's positions, the first thousand of them.
+fn note_all<L: Ledger>(
     alloc: Global,
     blank: Blank,
     region: &Region,
-) -> Result<Vec<Vec<usize>>, AllocError>
+    search: &mut Search,
+) -> Result<(), AllocError>
     requires name { blank.name ≡ L.name }
     requires parts { blank.parts ≡ L.parts }
     requires some { 0 < blank.parts }
 {
-    let mut edges = Vec::new(alloc);
     if region.points.len() > 32 {
-        return Ok(edges);
+        return Ok(());
     }
     let links = Links::of(region);
     let mut steps = Steps::<L>::new(blank);
-    let mut moves = Vec::new(alloc);
-    let mut found = Vec::new(alloc);
-    found.push(start(region))?;
+    search.found.push(start(region))?;
     for at in 0..1_000 {
-        if let Some(from) = found.get(at).copied() {
-            list_moves(&links, from, &mut steps, &mut moves)?;
-            edges.push(leads_to(alloc, &mut found, &moves)?)?;
+        if let Some(from) = search.found.get(at).copied() {
+            note_edges(alloc, &links, from, &mut steps, search)?;
         }
     }
-    Ok(edges)
+    Ok(())
 }
 
 /// The cycle that is shown.
@@ -157,35 +175,69 @@ fn shown_cycle<L: Ledger>(
     }
 }
 
-/// A board of so many columns and rows, with marks where Black's and White's stones touch it.
-fn board(columns: u8, rows: u8, black: &'static [u8], white: &'static [u8]) -> Drawing {
-    Drawing {
-        columns,
-        rows,
+/// The cycle by the plain search.
+fn searched_cycle<L: Ledger>(
+    alloc: Global,
+    blank: Blank,
+    region: &Region,
+) -> Result<Option<Cycle>, AllocError>
+    requires name { blank.name ≡ L.name }
+    requires parts { blank.parts ≡ L.parts }
+    requires some { 0 < blank.parts }
+{
+    let mut search = Search {
+        found: Vec::new(alloc),
+        moves: Vec::new(alloc),
+        edges: Vec::new(alloc),
+    };
+    note_all::<L>(alloc, blank, region, &mut search)?;
+    plain_cycle(alloc, &search.edges)
+}
+
+/// Whether both ways to look for a cycle of a region find this one.
+fn has_cycle(alloc: Global, region: &Region, want: Option<Cycle>) -> Result<bool, AllocError> {
+    let shown = shown_cycle::<Brand>(alloc, Blank::new(1), region)?;
+    let searched = searched_cycle::<Brand>(alloc, Blank::new(1), region)?;
+    Ok(shown == want && searched == want)
+}
+
+/// Columns and rows of a board, marks where Black's and White's stones touch it, and the cycle that comes soonest.
+type Row = (u8, u8, &'static [u8], &'static [u8], Option<Cycle>);
+
+static ROWS: [Row; 7] = [
+    (2, 1, b"X.", b".X", Some((1, 2))),
+    (2, 1, b"XX", b".X", None),
+    (3, 1, b"X..", b"..X", Some((1, 3))),
+    (4, 1, b"X...", b"...X", Some((1, 4))),
+    (2, 2, b"X...", b"...X", Some((1, 4))),
+    (2, 2, b"XX..", b"..XX", Some((2, 4))),
+    (4, 1, b"XX..", b"..XX", Some((1, 4))),
+];
+
+/// Whether a row is so.
+fn is_so(alloc: Global, row: &Row) -> Result<bool, AllocError> {
+    let drawn = Drawing {
+        columns: row.0,
+        rows: row.1,
         cells: b"",
-        black,
-        white,
+        black: row.2,
+        white: row.3,
+    };
+    let region = region(alloc, drawn)?;
+    has_cycle(alloc, &region, row.4)
+}
+
+/// The first row that isn't so.
+fn wrong_row(alloc: Global) -> Option<usize> {
+    for (at, row) in ROWS.iter().enumerate() {
+        if is_so(alloc, row) != Ok(true) {
+            return Some(at);
+        }
     }
+    None
 }
 
 #[test]
-fn shows_the_soonest_cycle(rt: HostRuntime) -> Result<(), AllocError> {
-    let rows = [
-        (board(2, 1, b"X.", b".X"), Some((1, 2))),
-        (board(2, 1, b"XX", b".X"), None),
-        (board(3, 1, b"X..", b"..X"), Some((1, 3))),
-        (board(4, 1, b"X...", b"...X"), Some((1, 4))),
-        (board(2, 2, b"X...", b"...X"), Some((1, 4))),
-        (board(2, 2, b"XX..", b"..XX"), Some((2, 4))),
-        (board(4, 1, b"XX..", b"..XX"), Some((1, 4))),
-    ];
-    for (at, (drawn, want)) in rows.into_iter().enumerate() {
-        let region = region(rt.alloc(), drawn)?;
-        let got = shown_cycle::<Brand>(rt.alloc(), Blank::new(1), &region)?;
-        let edges = edges_of::<Brand>(rt.alloc(), Blank::new(1), &region)?;
-        let plain = plain_cycle(rt.alloc(), &edges)?;
-        assert_eq!(rt; got, plain, "at {at}");
-        assert_eq!(rt; got, want, "at {at}");
-    }
-    Ok(())
+fn shows_the_soonest_cycle(rt: HostRuntime) {
+    assert_eq!(rt; wrong_row(rt.alloc()), None);
 }

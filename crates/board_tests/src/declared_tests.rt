@@ -1,7 +1,7 @@
 //! Boards with declared points, drawn row by row: X and O are stones, b and w points declared for Black and for White.
 
 use benson_attack::{AttackError, attack};
-use benson_life::Territory;
+use benson_life::{Life, Territory};
 use drawings::declared_board;
 use go_grid::{Board, Colour, Point, Points};
 use std::alloc::{AllocError, Global};
@@ -19,7 +19,7 @@ struct Row {
     groups: [u32; 2],
 }
 
-const ROWS: [Row; 8] = [
+static ROWS: [Row; 8] = [
     // A board that is one colour's, without a stone.
     Row {
         columns: 3,
@@ -99,40 +99,56 @@ const ROWS: [Row; 8] = [
 ];
 
 /// Whether the set has just these points.
-fn same(alloc: Global, points: &Points, want: &[u16]) -> Result<bool, AllocError> {
-    let list = points.to_list(alloc)?;
-    Ok(list.iter().map(|point| point.0).eq(want.iter().copied()))
+fn same(alloc: Global, points: &Points, want: &[u16]) -> bool {
+    match points.to_list(alloc) {
+        Ok(list) => list.iter().map(|point| point.0).eq(want.iter().copied()),
+        Err(_error) => false,
+    }
+}
+
+/// Whether what lives of one colour has these alive stones and counted points.
+fn is_life(alloc: Global, life: &Life, alive: &[u16], counted: &[u16]) -> bool {
+    same(alloc, &life.alive, alive) && same(alloc, &life.counted, counted)
 }
 
 /// Whether the board is settled, and lives and counts so.
-fn is_so(alloc: Global, row: &Row) -> Result<bool, AllocError> {
-    let board = declared_board(alloc, row.columns, row.rows, row.drawing)?;
+fn is_so(alloc: Global, board: &Board, row: &Row) -> Result<bool, AllocError> {
     if board.unsettled()?.is_some() {
         return Ok(false);
     }
-    let territory = Territory::of(alloc, &board)?;
-    let (black, white) = (&territory.black, &territory.white);
+    let territory = Territory::of(alloc, board)?;
     Ok(
-        same(alloc, &black.alive, row.alive[0])?
-            && same(alloc, &white.alive, row.alive[1])?
-            && same(alloc, &black.counted, row.counted[0])?
-            && same(alloc, &white.counted, row.counted[1])?
-            && same(alloc, &territory.contested(&board), row.contested)?
-            && black.groups(alloc, &board, Colour::Black)? == row.groups[0]
-            && white.groups(alloc, &board, Colour::White)? == row.groups[1],
+        is_life(alloc, &territory.black, row.alive[0], row.counted[0])
+            && is_life(alloc, &territory.white, row.alive[1], row.counted[1])
+            && same(alloc, &territory.contested(board), row.contested)
+            && territory.black.groups(alloc, board, Colour::Black) == Ok(row.groups[0])
+            && territory.white.groups(alloc, board, Colour::White) == Ok(row.groups[1]),
     )
 }
 
-#[test]
-fn declared_points_count(rt: HostRuntime) -> Result<(), AllocError> {
+/// Whether a row is so.
+fn is_row(alloc: Global, row: &Row) -> Result<bool, AllocError> {
+    let board = declared_board(alloc, row.columns, row.rows, row.drawing)?;
+    is_so(alloc, &board, row)
+}
+
+/// The first row that isn't so.
+fn wrong_row(alloc: Global) -> Option<usize> {
     for (at, row) in ROWS.iter().enumerate() {
-        assert!(rt; is_so(rt.alloc(), row)?, "at {at}");
+        if is_row(alloc, row) != Ok(true) {
+            return Some(at);
+        }
     }
-    Ok(())
+    None
+}
+
+#[test]
+fn declared_points_count(rt: HostRuntime) {
+    assert_eq!(rt; wrong_row(rt.alloc()), None);
 }
 
 /// A board by its columns and its cells, and the lowest point that isn't settled.
-const UNSETTLED: [(u8, &[u8], Option<u16>); 6] = [
+static UNSETTLED: [(u8, &[u8], Option<u16>); 6] = [
     (3, b"bbb", None),
     (2, b"bX", None),
     (2, b"bO", Some(0)),
@@ -141,13 +157,25 @@ const UNSETTLED: [(u8, &[u8], Option<u16>); 6] = [
     (3, b"wbX", Some(0)),
 ];
 
-#[test]
-fn declared_points_are_closed_off(rt: HostRuntime) -> Result<(), AllocError> {
-    for (columns, drawing, want) in UNSETTLED {
-        let board = declared_board(rt.alloc(), columns, 1, drawing)?;
-        assert!(rt; board.unsettled()?.map(|point| point.0) == want);
+/// The lowest point of a board of one row that isn't settled.
+fn unsettled(alloc: Global, columns: u8, drawing: &[u8]) -> Result<Option<u16>, AllocError> {
+    let board = declared_board(alloc, columns, 1, drawing)?;
+    Ok(board.unsettled()?.map(|point| point.0))
+}
+
+/// The first row of the table of unsettled boards that isn't so.
+fn wrong_unsettled(alloc: Global) -> Option<usize> {
+    for (at, row) in UNSETTLED.iter().enumerate() {
+        if unsettled(alloc, row.0, row.1) != Ok(row.2) {
+            return Some(at);
+        }
     }
-    Ok(())
+    None
+}
+
+#[test]
+fn declared_points_are_closed_off(rt: HostRuntime) {
+    assert_eq!(rt; wrong_unsettled(rt.alloc()), None);
 }
 
 /// The attack on the stone at a point of a settled board: its placings, or none where the stone is alive or there is none.
@@ -166,25 +194,42 @@ fn attack_on(alloc: Global, board: &Board, stone: Point) -> Result<Vec<Point>, A
 }
 
 /// A board by its columns and its cells, a stone, and the placings that take it.
-const ATTACKS: [(u8, &[u8], u16, &[u16]); 4] = [
+static ATTACKS: [(u8, &[u8], u16, &[u16]); 4] = [
     (5, b"XbX.O", 0, &[]),
     (5, b"XbX.O", 4, &[3]),
     (5, b"X.X.O", 0, &[1]),
     (5, b"bX..O", 4, &[3]),
 ];
 
-#[test]
-fn attacks_pass_declared_points_by(rt: HostRuntime) -> Result<(), AllocError> {
-    let alloc = rt.alloc();
-    for (columns, drawing, stone, want) in ATTACKS {
-        let board = declared_board(alloc, columns, 1, drawing)?;
-        let placings = attack_on(alloc, &board, Point(stone))?;
-        assert!(rt;
-            placings
-                .iter()
-                .map(|point| point.0)
-                .eq(want.iter().copied())
-        );
+/// Whether just these placings take the stone at a point of a board of one row.
+fn is_attacked(
+    alloc: Global,
+    columns: u8,
+    drawing: &[u8],
+    stone: Point,
+    want: &[u16],
+) -> Result<bool, AllocError> {
+    let board = declared_board(alloc, columns, 1, drawing)?;
+    let placings = attack_on(alloc, &board, stone)?;
+    Ok(
+        placings
+            .iter()
+            .map(|point| point.0)
+            .eq(want.iter().copied()),
+    )
+}
+
+/// The first row of the table of attacks that isn't so.
+fn wrong_attack(alloc: Global) -> Option<usize> {
+    for (at, row) in ATTACKS.iter().enumerate() {
+        if is_attacked(alloc, row.0, row.1, Point(row.2), row.3) != Ok(true) {
+            return Some(at);
+        }
     }
-    Ok(())
+    None
+}
+
+#[test]
+fn attacks_pass_declared_points_by(rt: HostRuntime) {
+    assert_eq!(rt; wrong_attack(rt.alloc()), None);
 }

@@ -80,7 +80,34 @@ fn first_moves(graph: &Graph) -> usize {
     }
 }
 
-/// The answer for a region and a limit.
+/// What a failure to build a graph comes to.
+fn failed(error: GraphError) -> Result<Outcome, AllocError> {
+    match error {
+        GraphError::Points(points) => Ok(Outcome::Points(points)),
+        GraphError::Positions => Ok(Outcome::Positions),
+        GraphError::Cycle(_moves, _back) => Ok(Outcome::Cycle),
+        GraphError::Memory(error) => Err(error),
+    }
+}
+
+/// The outcome for a region and a limit.
+fn built<L: Ledger>(
+    alloc: Global,
+    blank: Blank,
+    region: &Region,
+    limit: u32,
+) -> Result<Outcome, AllocError>
+    requires name { blank.name ≡ L.name }
+    requires parts { blank.parts ≡ L.parts }
+    requires some { 0 < blank.parts }
+{
+    match build(alloc, region, limit, &mut Steps::<L>::new(blank)) {
+        Ok(graph) => Ok(Outcome::Graph(graph.len(), first_moves(&graph))),
+        Err(error) => failed(error),
+    }
+}
+
+/// The outcome for a drawn region and a limit.
 fn answer<L: Ledger>(
     alloc: Global,
     blank: Blank,
@@ -92,32 +119,34 @@ fn answer<L: Ledger>(
     requires some { 0 < blank.parts }
 {
     let region = region(alloc, drawn)?;
-    match build(alloc, &region, limit, &mut Steps::<L>::new(blank)) {
-        Ok(graph) => Ok(Outcome::Graph(graph.len(), first_moves(&graph))),
-        Err(GraphError::Points(points)) => Ok(Outcome::Points(points)),
-        Err(GraphError::Positions) => Ok(Outcome::Positions),
-        Err(GraphError::Cycle(_moves, _back)) => Ok(Outcome::Cycle),
-        Err(GraphError::Memory(error)) => Err(error),
+    built::<L>(alloc, blank, &region, limit)
+}
+
+/// The drawing of a region, a limit, and what comes of building its graph.
+static GRAPHS: [(Drawing, u32, Outcome); 8] = [
+    (ONE_POINT, 3, Outcome::Graph(3, 2)),
+    (ONE_POINT, 2, Outcome::Positions),
+    (TWO_POINTS, 8, Outcome::Graph(8, 4)),
+    (WHITE_STONE, 4, Outcome::Graph(4, 2)),
+    (THREE_POINTS, 22, Outcome::Graph(22, 6)),
+    (THREE_POINTS, 21, Outcome::Positions),
+    (ENDLESS, 100, Outcome::Cycle),
+    (WHOLE_BOARD, 100, Outcome::Points(36)),
+];
+
+/// The first row of the table of graphs that isn't so.
+fn wrong_graph(alloc: Global) -> Option<usize> {
+    for (at, row) in GRAPHS.iter().enumerate() {
+        if answer::<Brand>(alloc, Blank::new(1), row.0, row.1) != Ok(row.2) {
+            return Some(at);
+        }
     }
+    None
 }
 
 #[test]
-fn builds(rt: HostRuntime) -> Result<(), AllocError> {
-    let rows = [
-        (ONE_POINT, 3, Outcome::Graph(3, 2)),
-        (ONE_POINT, 2, Outcome::Positions),
-        (TWO_POINTS, 8, Outcome::Graph(8, 4)),
-        (WHITE_STONE, 4, Outcome::Graph(4, 2)),
-        (THREE_POINTS, 22, Outcome::Graph(22, 6)),
-        (THREE_POINTS, 21, Outcome::Positions),
-        (ENDLESS, 100, Outcome::Cycle),
-        (WHOLE_BOARD, 100, Outcome::Points(36)),
-    ];
-    for (at, (drawn, limit, want)) in rows.into_iter().enumerate() {
-        let got = answer::<Brand>(rt.alloc(), Blank::new(1), drawn, limit)?;
-        assert_eq!(rt; got, want, "at {at}");
-    }
-    Ok(())
+fn builds(rt: HostRuntime) {
+    assert_eq!(rt; wrong_graph(rt.alloc()), None);
 }
 
 /// Whether a move is of the colour, at the place, and takes so many stones.
@@ -148,17 +177,26 @@ fn has_moves<L: Ledger>(
     }
 }
 
-#[test]
-fn expands(rt: HostRuntime) -> Result<(), AllocError> {
-    let rows = [
-        (ONE_POINT, (Colour::Black, 0, 0), (Colour::White, 0, 0)),
-        (WHITE_STONE, (Colour::Black, 1, 1), (Colour::White, 1, 0)),
-    ];
-    for (at, (drawn, first, second)) in rows.into_iter().enumerate() {
-        assert!(rt;
-            has_moves::<Brand>(rt.alloc(), Blank::new(1), drawn, first, second)?,
-            "at {at}"
-        );
+/// The first of a one-point region and one with a white stone whose first moves are others.
+fn wrong_moves(alloc: Global) -> Option<usize> {
+    for (at, row) in MOVES.iter().enumerate() {
+        if has_moves::<Brand>(alloc, Blank::new(1), row.0, row.1, row.2) != Ok(true) {
+            return Some(at);
+        }
     }
-    Ok(())
+    None
+}
+
+/// A colour, a place, and how many stones are taken.
+type Placed = (Colour, u8, u8);
+
+/// The drawing of a region, and its two first moves.
+static MOVES: [(Drawing, Placed, Placed); 2] = [
+    (ONE_POINT, (Colour::Black, 0, 0), (Colour::White, 0, 0)),
+    (WHITE_STONE, (Colour::Black, 1, 1), (Colour::White, 1, 0)),
+];
+
+#[test]
+fn expands(rt: HostRuntime) {
+    assert_eq!(rt; wrong_moves(rt.alloc()), None);
 }

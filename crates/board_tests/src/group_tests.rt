@@ -15,6 +15,30 @@ fn is_beside(size: Size, points: &Points, point: Point) -> bool {
     around.as_slice().iter().any(|near| points.contains(*near))
 }
 
+/// Whether two stones are of one chain.
+fn are_chained(board: &Board, a: Point, b: Point) -> Result<bool, AllocError> {
+    if a.0 >= board.size().area() || board.colour_at(a).is_none() {
+        return Ok(false);
+    }
+    let chain = board.chain_of(a)?;
+    Ok(chain.iter().any(|stone| stone.is(b)))
+}
+
+/// Whether two stones are next to one region of counted points.
+fn share_a_region(board: &Board, colour: Colour, counted: &[Point], a: Point, b: Point) -> bool {
+    let size = board.size();
+    let lacking = board.lacking(colour);
+    for point in counted {
+        if lacking.contains(*point) {
+            let region = fill(size, &lacking, *point);
+            if is_beside(size, &region, a) && is_beside(size, &region, b) {
+                return true;
+            }
+        }
+    }
+    false
+}
+
 /// Whether two stones are of one chain, or next to one region of counted points.
 fn linked(
     board: &Board,
@@ -23,23 +47,7 @@ fn linked(
     a: Point,
     b: Point,
 ) -> Result<bool, AllocError> {
-    let size = board.size();
-    if a.0 >= size.area() || board.colour_at(a).is_none() {
-        return Ok(false);
-    }
-    if board.chain_of(a)?.iter().any(|stone| stone.is(b)) {
-        return Ok(true);
-    }
-    let lacking = board.lacking(colour);
-    for point in counted {
-        if lacking.contains(*point) {
-            let region = fill(size, &lacking, *point);
-            if is_beside(size, &region, a) && is_beside(size, &region, b) {
-                return Ok(true);
-            }
-        }
-    }
-    Ok(false)
+    Ok(are_chained(board, a, b)? || share_a_region(board, colour, counted, a, b))
 }
 
 /// The stones that links join to the stones of a set: once round for each stone, since each round that goes on adds one.
@@ -67,106 +75,71 @@ fn closed(
     Ok(met)
 }
 
-/// The number of groups of the colour, by closing one after the other under links.
-fn plain_groups(alloc: Global, board: &Board, colour: Colour) -> Result<(usize, u32), AllocError> {
+/// The number of groups of alive stones with counted points, by closing one after the other under links.
+fn plain_groups(
+    board: &Board,
+    colour: Colour,
+    stones: &[Point],
+    points: &[Point],
+) -> Result<u32, AllocError> {
+    let mut met = Points::new();
+    let mut number = 0u32;
+    for stone in stones {
+        if stone.0 < 625 && !met.contains(*stone) {
+            number = number.saturating_add(1);
+            met.insert(*stone);
+            met = closed(board, colour, stones, points, met)?;
+        }
+    }
+    Ok(number)
+}
+
+/// Whether both ways to count the colour's groups give this number.
+fn has_groups(alloc: Global, board: &Board, colour: Colour, want: u32) -> Result<bool, AllocError> {
     if board.unsettled()?.is_some() {
-        return Ok((0, 1));
+        return Ok(false);
     }
     let stones = alive(alloc, board, colour)?;
     let points = counted(alloc, board, colour, &stones)?;
-    let mut met = Points::new();
-    let mut firsts = Vec::new(alloc);
-    for stone in &stones {
-        if stone.0 < 625 && !met.contains(*stone) {
-            firsts.push(*stone)?;
-            met.insert(*stone);
-            met = closed(board, colour, &stones, &points, met)?;
-        }
-    }
-    Ok((
-        firsts.len(),
-        groups(alloc, board, colour, &stones, &points)?,
-    ))
-}
-
-/// A board of so many columns and rows, and the numbers of groups of Black and White on it.
-#[derive(Drop)]
-struct Grouped {
-    columns: u8,
-    rows: u8,
-    drawing: &'static [u8],
-    black: u32,
-    white: u32,
-}
-
-/// Whether both ways to count give these numbers.
-fn is_grouped(alloc: Global, row: &Grouped) -> Result<bool, AllocError> {
-    let board = board(alloc, row.columns, row.rows, row.drawing)?;
-    let (plain_black, black) = plain_groups(alloc, &board, Colour::Black)?;
-    let (plain_white, white) = plain_groups(alloc, &board, Colour::White)?;
     Ok(
-        black == row.black
-            && white == row.white
-            && plain_black == black as usize
-            && plain_white == white as usize,
+        groups(alloc, board, colour, &stones, &points) == Ok(want)
+            && plain_groups(board, colour, &stones, &points) == Ok(want),
     )
 }
 
-#[test]
-fn groups_are_counted(rt: HostRuntime) -> Result<(), AllocError> {
-    let rows = [
-        Grouped {
-            columns: 4,
-            rows: 1,
-            drawing: b".X..",
-            black: 0,
-            white: 0,
-        },
-        Grouped {
-            columns: 5,
-            rows: 1,
-            drawing: b".X.X.",
-            black: 1,
-            white: 0,
-        },
-        Grouped {
-            columns: 9,
-            rows: 1,
-            drawing: b".O.O.O.O.",
-            black: 0,
-            white: 1,
-        },
-        Grouped {
-            columns: 9,
-            rows: 2,
-            drawing: b".OX.XO.O.XXXXXOOOO",
-            black: 1,
-            white: 1,
-        },
-        Grouped {
-            columns: 12,
-            rows: 2,
-            drawing: b".X.X....X.X.XXXX....XXXX",
-            black: 2,
-            white: 0,
-        },
-        Grouped {
-            columns: 13,
-            rows: 2,
-            drawing: b".X.XO.O.OX.X.XXXXOOOOOXXXX",
-            black: 2,
-            white: 1,
-        },
-        Grouped {
-            columns: 3,
-            rows: 5,
-            drawing: b".X.X.X.X.X.X.X.",
-            black: 1,
-            white: 0,
-        },
-    ];
-    for (at, row) in rows.iter().enumerate() {
-        assert!(rt; is_grouped(rt.alloc(), row)?, "at {at}");
+/// A board of so many columns and rows, and the numbers of groups of Black and White on it.
+type Grouped = (u8, u8, &'static [u8], u32, u32);
+
+static GROUPED: [Grouped; 7] = [
+    (4, 1, b".X..", 0, 0),
+    (5, 1, b".X.X.", 1, 0),
+    (9, 1, b".O.O.O.O.", 0, 1),
+    (9, 2, b".OX.XO.O.XXXXXOOOO", 1, 1),
+    (12, 2, b".X.X....X.X.XXXX....XXXX", 2, 0),
+    (13, 2, b".X.XO.O.OX.X.XXXXOOOOOXXXX", 2, 1),
+    (3, 5, b".X.X.X.X.X.X.X.", 1, 0),
+];
+
+/// Whether both ways to count give these numbers.
+fn is_grouped(alloc: Global, row: &Grouped) -> Result<bool, AllocError> {
+    let board = board(alloc, row.0, row.1, row.2)?;
+    Ok(
+        has_groups(alloc, &board, Colour::Black, row.3) == Ok(true)
+            && has_groups(alloc, &board, Colour::White, row.4) == Ok(true),
+    )
+}
+
+/// The first row that isn't so.
+fn wrong_row(alloc: Global) -> Option<usize> {
+    for (at, row) in GROUPED.iter().enumerate() {
+        if is_grouped(alloc, row) != Ok(true) {
+            return Some(at);
+        }
     }
-    Ok(())
+    None
+}
+
+#[test]
+fn groups_are_counted(rt: HostRuntime) {
+    assert_eq!(rt; wrong_row(rt.alloc()), None);
 }

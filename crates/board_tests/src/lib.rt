@@ -30,6 +30,8 @@ mod position_tests;
 #[cfg(test)]
 mod record_tests;
 #[cfg(test)]
+mod setup_fault_tests;
+#[cfg(test)]
 mod shape_tests;
 #[cfg(test)]
 mod state_tests;

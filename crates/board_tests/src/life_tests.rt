@@ -37,202 +37,188 @@ fn has_chain(
     Ok(same(&board.chain_of(stone)?, chain) && same(&board.liberties_of(stone)?, liberties))
 }
 
+/// Whether an empty board and its copy show no stones.
+fn is_empty(alloc: Global) -> Result<bool, AllocError> {
+    let empty = board(alloc, 3, 1, b"")?;
+    let copy = empty.copy()?;
+    Ok(shows(&empty, b"...") && shows(&copy, b"..."))
+}
+
+/// Whether a board is settled, and the chain of its stone at 1 is this, with these liberties.
+fn is_settled_with(board: &Board, chain: &[u16], liberties: &[u16]) -> Result<bool, AllocError> {
+    Ok(has_chain(board, Point(1), chain, liberties)? && board.unsettled()?.is_none())
+}
+
 #[test]
 fn boards_and_chains(rt: HostRuntime) -> Result<(), AllocError> {
     let alloc = rt.alloc();
-    let empty = board(alloc, 3, 1, b"")?;
-    assert!(rt; shows(&empty, b"..."));
-    assert!(rt; shows(&empty.copy()?, b"..."));
+    assert!(rt; is_empty(alloc)?);
     let corridor = board(alloc, 9, 2, b".X.X.O.O.XXXX.OOOO")?;
-    assert!(rt; has_chain(&corridor, Point(1), &[1, 3, 9, 10, 11, 12], &[0, 2, 4, 13])?);
-    assert!(rt; corridor.unsettled()?.is_none());
-    let choked = board(alloc, 2, 1, b"XO")?;
-    assert!(rt; choked.unsettled()? == Some(Point(0)));
+    assert!(rt; is_settled_with(&corridor, &[1, 3, 9, 10, 11, 12], &[0, 2, 4, 13]) == Ok(true));
+    let choked = board(alloc, 2, 1, b"XO")?.unsettled()?;
+    assert!(rt; choked == Some(Point(0)));
     Ok(())
 }
 
-/// A white stone placed on a board of two columns: what that answers, and the board after it.
-#[derive(Drop)]
-struct Placing {
-    before: &'static [u8],
-    point: Point,
-    answer: Result<u16, PlaceError>,
-    after: &'static [u8],
-}
+/// A white stone placed on a point of a board of two columns: what that answers, and the board after it.
+type Placing = (&'static [u8], u16, Result<u16, PlaceError>, &'static [u8]);
+
+static PLACINGS: [Placing; 3] = [
+    (b".XX.", 0, Err(PlaceError::Suicide), b".XX."),
+    (b"X.", 1, Ok(1), b".O"),
+    (b"X.", 0, Err(PlaceError::Occupied), b"X."),
+];
 
 /// Whether `place` and `allowed` answer so, and leave these boards.
 fn is_placed(alloc: Global, row: &Placing) -> Result<bool, AllocError> {
-    let mut board = board(
-        alloc,
-        2,
-        if row.before.len() == 4 { 2 } else { 1 },
-        row.before,
-    )?;
-    if row.point.0 >= board.size().area() {
+    let rows = if row.0.len() == 4 { 2 } else { 1 };
+    let mut board = board(alloc, 2, rows, row.0)?;
+    if row.1 >= board.size().area() {
         return Ok(false);
     }
-    let asked = allowed(&board, row.point, Colour::White);
-    let untouched = shows(&board, row.before);
-    let answer = place(&mut board, row.point, Colour::White);
-    Ok(asked == row.answer && untouched && answer == row.answer && shows(&board, row.after))
+    let asked = allowed(&board, Point(row.1), Colour::White);
+    let untouched = shows(&board, row.0);
+    let answer = place(&mut board, Point(row.1), Colour::White);
+    Ok(asked == row.2 && untouched && answer == row.2 && shows(&board, row.3))
+}
+
+/// The first of the placings that isn't so.
+fn wrong_placing(alloc: Global) -> Option<usize> {
+    for (at, row) in PLACINGS.iter().enumerate() {
+        if is_placed(alloc, row) != Ok(true) {
+            return Some(at);
+        }
+    }
+    None
 }
 
 #[test]
-fn placings(rt: HostRuntime) -> Result<(), AllocError> {
-    let rows = [
-        Placing {
-            before: b".XX.",
-            point: Point(0),
-            answer: Err(PlaceError::Suicide),
-            after: b".XX.",
-        },
-        Placing {
-            before: b"X.",
-            point: Point(1),
-            answer: Ok(1),
-            after: b".O",
-        },
-        Placing {
-            before: b"X.",
-            point: Point(0),
-            answer: Err(PlaceError::Occupied),
-            after: b"X.",
-        },
-    ];
-    for (at, row) in rows.iter().enumerate() {
-        assert!(rt; is_placed(rt.alloc(), row)?, "at {at}");
-    }
-    Ok(())
+fn placings(rt: HostRuntime) {
+    assert_eq!(rt; wrong_placing(rt.alloc()), None);
 }
 
-/// A board, Black's alive stones and counted points on it, and what Black holds.
-#[derive(Drop)]
-struct Life {
-    columns: u8,
-    rows: u8,
-    drawing: &'static [u8],
-    alive: &'static [u16],
-    counted: &'static [u16],
-    held: u32,
-}
+/// Columns and rows of a board, its drawing, Black's alive stones and counted points on it, and what Black holds.
+type Life = (u8, u8, &'static [u8], &'static [u16], &'static [u16], u32);
 
-/// A row of the table of boards.
-fn row(
-    (columns, rows): (u8, u8),
-    drawing: &'static [u8],
-    alive: &'static [u16],
-    counted: &'static [u16],
-    held: u32,
-) -> Life {
-    Life {
-        columns,
-        rows,
-        drawing,
-        alive,
-        counted,
-        held,
-    }
-}
-
-/// Whether the board is settled, and Black's stones live, count and hold so.
-fn lives(alloc: Global, row: &Life) -> Result<bool, AllocError> {
-    let board = board(alloc, row.columns, row.rows, row.drawing)?;
+/// Whether Black's stones live, count and hold so.
+fn lives(alloc: Global, board: &Board, row: &Life) -> Result<bool, AllocError> {
     if board.unsettled()?.is_some() {
         return Ok(false);
     }
-    let stones = alive(alloc, &board, Colour::Black)?;
-    let points = counted(alloc, &board, Colour::Black, &stones)?;
-    let worth = held(&board, Colour::Black, &points);
-    Ok(same(&stones, row.alive) && same(&points, row.counted) && worth == row.held)
+    let stones = alive(alloc, board, Colour::Black)?;
+    let points = counted(alloc, board, Colour::Black, &stones)?;
+    let worth = held(board, Colour::Black, &points);
+    Ok(same(&stones, row.3) && same(&points, row.4) && worth == row.5)
 }
 
-#[test]
-fn lives_and_counts(rt: HostRuntime) -> Result<(), AllocError> {
-    let rows = [
-        row((3, 2), b".X.XXX", &[1, 3, 4, 5], &[0, 2], 2),
-        row((3, 2), b".XXXXX", &[], &[], 0),
-        row(
-            (8, 2),
-            b".X.XO.O.XXXXOOOO",
-            &[1, 3, 8, 9, 10, 11],
-            &[0, 2],
-            2,
-        ),
-        row(
-            (9, 2),
-            b".X.X.O.O.XXXX.OOOO",
-            &[1, 3, 9, 10, 11, 12],
-            &[0, 2],
-            2,
-        ),
-        row(
-            (9, 2),
-            b".X.X.O.O.XXXXXOOOO",
-            &[1, 3, 9, 10, 11, 12, 13],
-            &[0, 2],
-            2,
-        ),
-        row(
-            (10, 3),
-            b".X.XXXO.O.XXXX..OOOOXXXXXXOOOO",
-            &[1, 3, 4, 5, 10, 11, 12, 13, 20, 21, 22, 23, 24, 25],
-            &[0, 2],
-            2,
-        ),
-        row(
-            (10, 3),
-            b".X.XXOO.O.XXXX..OOOOXXXXXOOOOO",
-            &[1, 3, 4, 10, 11, 12, 13, 20, 21, 22, 23, 24],
-            &[0, 2],
-            2,
-        ),
-        row(
-            (11, 3),
-            b".X.XXXXO.O.XXXX...OOOOXXXXXXXOOOO",
-            &[1, 3, 4, 5, 6, 11, 12, 13, 14, 22, 23, 24, 25, 26, 27, 28],
-            &[0, 2],
-            2,
-        ),
-        row(
-            (9, 2),
-            b".OX.XO.O.XXXXXOOOO",
-            &[2, 4, 9, 10, 11, 12, 13],
-            &[0, 1, 3],
-            4,
-        ),
-        // a false eye, a seki, a bent room, a captive between two empty points, a room with an inner point
-        row((4, 4), b".XO.XOO.XXO..XO.", &[], &[], 0),
-        row((3, 2), b"X.OX.O", &[], &[], 0),
-        row((5, 3), b"...XO.XXXOXXOO.", &[], &[], 0),
-        row((5, 3), b"XXXXXX.O.XXXX.X", &[], &[], 0),
-        row((7, 5), b"XXXXXXXX...X.XX...XXXX...XXXXXXXXXX", &[], &[], 0),
-    ];
-    for (at, row) in rows.iter().enumerate() {
-        assert!(rt; lives(rt.alloc(), row)?, "at {at}");
+/// Whether the board is settled, and Black's stones live, count and hold so.
+fn is_life(alloc: Global, row: &Life) -> Result<bool, AllocError> {
+    let board = board(alloc, row.0, row.1, row.2)?;
+    lives(alloc, &board, row)
+}
+
+static LIVES: [Life; 14] = [
+    (3, 2, b".X.XXX", &[1, 3, 4, 5], &[0, 2], 2),
+    (3, 2, b".XXXXX", &[], &[], 0),
+    (8, 2, b".X.XO.O.XXXXOOOO", &[1, 3, 8, 9, 10, 11], &[0, 2], 2),
+    (
+        9,
+        2,
+        b".X.X.O.O.XXXX.OOOO",
+        &[1, 3, 9, 10, 11, 12],
+        &[0, 2],
+        2,
+    ),
+    (
+        9,
+        2,
+        b".X.X.O.O.XXXXXOOOO",
+        &[1, 3, 9, 10, 11, 12, 13],
+        &[0, 2],
+        2,
+    ),
+    (
+        10,
+        3,
+        b".X.XXXO.O.XXXX..OOOOXXXXXXOOOO",
+        &[1, 3, 4, 5, 10, 11, 12, 13, 20, 21, 22, 23, 24, 25],
+        &[0, 2],
+        2,
+    ),
+    (
+        10,
+        3,
+        b".X.XXOO.O.XXXX..OOOOXXXXXOOOOO",
+        &[1, 3, 4, 10, 11, 12, 13, 20, 21, 22, 23, 24],
+        &[0, 2],
+        2,
+    ),
+    (
+        11,
+        3,
+        b".X.XXXXO.O.XXXX...OOOOXXXXXXXOOOO",
+        &[1, 3, 4, 5, 6, 11, 12, 13, 14, 22, 23, 24, 25, 26, 27, 28],
+        &[0, 2],
+        2,
+    ),
+    (
+        9,
+        2,
+        b".OX.XO.O.XXXXXOOOO",
+        &[2, 4, 9, 10, 11, 12, 13],
+        &[0, 1, 3],
+        4,
+    ),
+    // a false eye, a seki, a bent room, a captive between two empty points, a room with an inner point
+    (4, 4, b".XO.XOO.XXO..XO.", &[], &[], 0),
+    (3, 2, b"X.OX.O", &[], &[], 0),
+    (5, 3, b"...XO.XXXOXXOO.", &[], &[], 0),
+    (5, 3, b"XXXXXX.O.XXXX.X", &[], &[], 0),
+    (7, 5, b"XXXXXXXX...X.XX...XXXX...XXXXXXXXXX", &[], &[], 0),
+];
+
+/// The first of the boards that isn't so.
+fn wrong_life(alloc: Global) -> Option<usize> {
+    for (at, row) in LIVES.iter().enumerate() {
+        if is_life(alloc, row) != Ok(true) {
+            return Some(at);
+        }
     }
-    Ok(())
+    None
 }
 
-/// Every second point of the largest board holds a black stone: each of these has its eyes beside it.
 #[test]
-fn a_whole_board(rt: HostRuntime) -> Result<(), AllocError> {
-    let alloc = rt.alloc();
+fn lives_and_counts(rt: HostRuntime) {
+    assert_eq!(rt; wrong_life(rt.alloc()), None);
+}
+
+/// The numbers of Black's alive stones and counted points, what Black holds, and its groups, where the board is settled.
+fn black_has(alloc: Global, board: &Board) -> Result<Option<(usize, usize, u32, u32)>, AllocError> {
+    if board.unsettled()?.is_some() {
+        return Ok(None);
+    }
+    let stones = alive(alloc, board, Colour::Black)?;
+    let points = counted(alloc, board, Colour::Black, &stones)?;
+    let worth = held(board, Colour::Black, &points);
+    let number = groups(alloc, board, Colour::Black, &stones, &points)?;
+    Ok(Some((stones.len(), points.len(), worth, number)))
+}
+
+/// The largest board with a black stone on every second point.
+fn chequered(alloc: Global) -> Result<Board, AllocError> {
     let mut drawing = [b'.'; 625];
     for place in 0..625usize {
         if place % 2 == 0 {
             drawing[place] = b'X';
         }
     }
-    let board = board(alloc, 25, 25, &drawing)?;
-    let settled = board.unsettled()?.is_none();
-    assert!(rt; settled);
-    if settled {
-        let stones = alive(alloc, &board, Colour::Black)?;
-        let points = counted(alloc, &board, Colour::Black, &stones)?;
-        assert_eq!(rt; stones.len(), 313);
-        assert_eq!(rt; points.len(), 312);
-        assert_eq!(rt; held(&board, Colour::Black, &points), 312);
-        assert_eq!(rt; groups(alloc, &board, Colour::Black, &stones, &points)?, 1);
-    }
+    board(alloc, 25, 25, &drawing)
+}
+
+/// Each of the black stones on every second point has its eyes beside it.
+#[test]
+fn a_whole_board(rt: HostRuntime) -> Result<(), AllocError> {
+    let board = chequered(rt.alloc())?;
+    assert!(rt; black_has(rt.alloc(), &board) == Ok(Some((313, 312, 312, 1))));
     Ok(())
 }

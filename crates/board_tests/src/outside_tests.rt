@@ -4,91 +4,123 @@ use desk_io::{
     Failed, FileShelf, LoadError, Loaded, MemoryShelf, MemorySink, MemorySource, Shelf, Sink,
     Source, StdSink, StdSource,
 };
-use std::alloc::Global;
+use std::alloc::{AllocError, Global};
 use std::io::{self, ErrorKind, Read, Write};
 use std::test::Fail;
 
+/// Whether a source gives two bytes, fails, gives one, and is at its end; the buffer then begins with this byte.
+fn gives_pieces(source: &mut MemorySource, first: u8) -> bool {
+    let mut buf = [0u8; 4];
+    source.read(&mut buf) == Ok(2)
+        && source.read(&mut buf) == Err(Failed)
+        && source.read(&mut buf) == Ok(1)
+        && source.read(&mut buf) == Ok(0)
+        && buf[0] == first
+}
+
 #[test]
 fn memory_source_gives_pieces(rt: HostRuntime) -> Result<(), Fail> {
-    let alloc = rt.alloc();
-    let mut source = MemorySource::new(b"abc".to_vec(alloc)?, 2, vec![in alloc; 1]?);
-    let mut buf = [0u8; 4];
-    for want in [Ok(2), Err(Failed), Ok(1), Ok(0)] {
-        assert_eq!(rt; source.read(&mut buf), want);
-    }
-    assert_eq!(rt; buf[0], b'c');
+    let bytes = b"abc".to_vec(rt.alloc())?;
+    let mut source = MemorySource::new(bytes, 2, vec![in rt.alloc(); 1]?);
+    assert!(rt; gives_pieces(&mut source, b'c'));
     Ok(())
 }
 
-/// Writes the piece into a sink of 4 bytes, whose call 7 alone fails.
-fn written_of_four(alloc: Global, piece: &[u8]) -> Result<(Result<(), Failed>, MemorySink), Fail> {
+/// Whether a sink of 4 bytes, whose call 7 alone fails, answers so and has got this then.
+fn takes(
+    alloc: Global,
+    piece: &[u8],
+    answer: Result<(), Failed>,
+    written: &[u8],
+) -> Result<bool, AllocError> {
     let mut sink = MemorySink::with_room(alloc, 4, vec![in alloc; 7]?)?;
-    let answer = sink.write(piece);
-    Ok((answer, sink))
+    Ok(sink.write(piece) == answer && sink.written() == written)
 }
 
 /// What is written, what comes of it, and what the sink has got then.
-const WRITES: [(&[u8], Result<(), Failed>, &[u8]); 4] = [
+static WRITES: [(&[u8], Result<(), Failed>, &[u8]); 4] = [
     (b"solve", Err(Failed), b"solv"),
     (b"end", Ok(()), b"end"),
     (b"four", Ok(()), b"four"),
     (b"", Ok(()), b""),
 ];
 
+/// The first row of the table of writes that isn't so.
+fn wrong_write(alloc: Global) -> Option<usize> {
+    for (at, row) in WRITES.iter().enumerate() {
+        if takes(alloc, row.0, row.1, row.2) != Ok(true) {
+            return Some(at);
+        }
+    }
+    None
+}
+
+/// Whether a sink fails at its first call and writes nothing then, and writes at its second.
+fn fails_once(failing: &mut MemorySink) -> bool {
+    failing.write(b"end") == Err(Failed)
+        && failing.written().is_empty()
+        && failing.write(b"end") == Ok(())
+}
+
 #[test]
 fn memory_sink_takes_what_fits(rt: HostRuntime) -> Result<(), Fail> {
     let alloc = rt.alloc();
-    for (piece, answer, written) in WRITES {
-        let (got, sink) = written_of_four(alloc, piece)?;
-        assert_eq!(rt; got, answer);
-        assert_eq!(rt; sink.written(), written);
-    }
+    assert_eq!(rt; wrong_write(alloc), None);
     let mut failing = MemorySink::with_room(alloc, 4, vec![in alloc; 0]?)?;
-    assert_eq!(rt; failing.write(b"end"), Err(Failed));
-    assert_eq!(rt; failing.written(), b"".as_slice());
-    assert_eq!(rt; failing.write(b"end"), Ok(()));
+    assert!(rt; fails_once(&mut failing));
     Ok(())
+}
+
+/// A name and a limit, and what comes of loading it.
+type Load = (&'static str, usize, Result<Loaded, LoadError>);
+
+/// Whether the loads are so, and append this.
+fn loads<S: Shelf>(alloc: Global, shelf: &mut S, loads: &[Load], appended: &[u8]) -> bool {
+    let mut out = Vec::new(alloc);
+    for row in loads {
+        if shelf.load(row.0, row.1, &mut out) != row.2 {
+            return false;
+        }
+    }
+    out.as_slice() == appended
+}
+
+static FROM_MEMORY: [Load; 5] = [
+    ("c", 3, Ok(Loaded::Whole)),
+    ("c", 2, Ok(Loaded::Longer)),
+    ("d", 3, Err(LoadError::Absent)),
+    ("c", 3, Err(LoadError::Failed)),
+    ("c", 9, Ok(Loaded::Whole)),
+];
+
+/// Adds a file twice to a shelf whose call 3 fails.
+fn fill(alloc: Global, shelf: &mut MemoryShelf) -> Result<(), AllocError> {
+    shelf.add("c", b"old".to_vec(alloc)?)?;
+    shelf.add("c", b"abc".to_vec(alloc)?)?;
+    shelf.fail_at(3)
 }
 
 #[test]
 fn memory_shelf_loads(rt: HostRuntime) -> Result<(), Fail> {
-    let alloc = rt.alloc();
-    let mut shelf = MemoryShelf::new(alloc);
-    shelf.add("c", b"old".to_vec(alloc)?)?;
-    shelf.add("c", b"abc".to_vec(alloc)?)?;
-    shelf.fail_at(3)?;
-    let mut out = Vec::new(alloc);
-    let table = [
-        ("c", 3, Ok(Loaded::Whole)),
-        ("c", 2, Ok(Loaded::Longer)),
-        ("d", 3, Err(LoadError::Absent)),
-        ("c", 3, Err(LoadError::Failed)),
-        ("c", 9, Ok(Loaded::Whole)),
-    ];
-    for (name, limit, want) in table {
-        assert_eq!(rt; shelf.load(name, limit, &mut out), want);
-    }
-    assert_eq!(rt; out.as_slice(), b"abcababc".as_slice());
+    let mut shelf = MemoryShelf::new(rt.alloc());
+    fill(rt.alloc(), &mut shelf)?;
+    assert!(rt; loads(rt.alloc(), &mut shelf, &FROM_MEMORY, b"abcababc"));
     Ok(())
 }
 
+static FROM_FILES: [Load; 4] = [
+    ("a", 3, Ok(Loaded::Whole)),
+    ("a", 2, Ok(Loaded::Longer)),
+    ("b", 2, Err(LoadError::Failed)),
+    ("a", 0, Ok(Loaded::Longer)),
+];
+
 #[test]
 fn file_shelf_loads(rt: HostRuntime) -> Result<(), Fail> {
-    let alloc = rt.alloc();
     std::fs::write(&rt, "a", "abc")?;
-    let mut shelf = FileShelf::new(&rt);
-    let mut out = Vec::new(alloc);
-    let table = [
-        ("a", 3, Ok(Loaded::Whole)),
-        ("a", 2, Ok(Loaded::Longer)),
-        ("b", 2, Err(LoadError::Failed)),
-        ("a", 0, Ok(Loaded::Longer)),
-    ];
-    for (name, limit, want) in table {
-        assert_eq!(rt; shelf.load(name, limit, &mut out), want);
-    }
-    assert_eq!(rt; out.as_slice(), b"abcab".as_slice());
+    let good = loads(rt.alloc(), &mut FileShelf::new(&rt), &FROM_FILES, b"abcab");
     std::fs::remove_file(&rt, "a")?;
+    assert!(rt; good);
     Ok(())
 }
 
@@ -110,19 +142,24 @@ impl Write for Narrow {
     }
 }
 
-#[test]
-fn adapters_pass_on(rt: HostRuntime) -> Result<(), Fail> {
-    let mut source = StdSource::new(b"ab".as_slice());
+/// Whether a source gives two bytes, the second of them this, and then none.
+fn gives_two(source: &mut StdSource<&[u8]>, second: u8) -> bool {
     let mut buf = [0u8; 4];
-    assert_eq!(rt; source.read(&mut buf), Ok(2));
-    assert_eq!(rt; buf[1], b'b');
-    assert_eq!(rt; source.read(&mut buf), Ok(0));
-    let mut sink = StdSink::new(Narrow { taken: 0 });
-    assert_eq!(rt; sink.write(b"abc"), Ok(()));
-    assert_eq!(rt; sink.write(b"def"), Err(Failed));
-    assert_eq!(rt; sink.write(b"g"), Err(Failed));
-    assert_eq!(rt; sink.write(b""), Ok(()));
-    Ok(())
+    source.read(&mut buf) == Ok(2) && buf[1] == second && source.read(&mut buf) == Ok(0)
+}
+
+/// Whether a narrow writer's sink takes a first piece and no second, and then only nothing.
+fn takes_one_piece(sink: &mut StdSink<Narrow>) -> bool {
+    sink.write(b"abc") == Ok(())
+        && sink.write(b"def") == Err(Failed)
+        && sink.write(b"g") == Err(Failed)
+        && sink.write(b"") == Ok(())
+}
+
+#[test]
+fn adapters_pass_on(rt: HostRuntime) {
+    assert!(rt; gives_two(&mut StdSource::new(b"ab".as_slice()), b'b'));
+    assert!(rt; takes_one_piece(&mut StdSink::new(Narrow { taken: 0 })));
 }
 
 /// A reader and a writer whose first call is interrupted, and which then takes or gives one byte a call.
@@ -168,13 +205,14 @@ impl Write for Interrupted {
     }
 }
 
-#[test]
-fn adapters_try_interrupted_calls_again(rt: HostRuntime) -> Result<(), Fail> {
-    let mut source = StdSource::new(Interrupted { called: false });
+/// Whether a source gives one byte, this one.
+fn gives_one(source: &mut StdSource<Interrupted>, first: u8) -> bool {
     let mut buf = [0u8; 4];
-    assert_eq!(rt; source.read(&mut buf), Ok(1));
-    assert_eq!(rt; buf[0], b'x');
-    let mut sink = StdSink::new(Interrupted { called: false });
-    assert_eq!(rt; sink.write(b"abc"), Ok(()));
-    Ok(())
+    source.read(&mut buf) == Ok(1) && buf[0] == first
+}
+
+#[test]
+fn adapters_try_interrupted_calls_again(rt: HostRuntime) {
+    assert!(rt; gives_one(&mut StdSource::new(Interrupted { called: false }), b'x'));
+    assert!(rt; StdSink::new(Interrupted { called: false }).write(b"abc") == Ok(()));
 }

@@ -174,7 +174,7 @@ fn have_one_shape(a: &Region, b: &Region) -> bool {
 }
 
 /// Straight and bent regions of three points.
-const POINTS: [&[u16]; 6] = [
+static POINTS: [&[u16]; 6] = [
     &[0, 1, 2],
     &[3, 7, 11],
     &[0, 1, 4],
@@ -212,17 +212,31 @@ struct Shaped {
     shape: Shape,
 }
 
+/// A region with the shape of its opening, if it has at most 32 points.
+fn with_shape(alloc: Global, region: Region) -> Result<Option<Shaped>, AllocError> {
+    if region.points.len() > 32 {
+        return Ok(None);
+    }
+    let (shape, _turn) = shape(alloc, &region, start(&region))?;
+    Ok(Some(Shaped { region, shape }))
+}
+
+/// Adds every fifth of the regions of these points.
+fn add_shaped(alloc: Global, points: &[u16], all: &mut Vec<Shaped>) -> Result<(), AllocError> {
+    for number in (0..1728).step_by(5) {
+        let region = region_of(alloc, points, number)?;
+        if let Some(shaped) = with_shape(alloc, region)? {
+            all.push(shaped)?;
+        }
+    }
+    Ok(())
+}
+
 /// Every fifth of these regions.
 fn regions_with_shapes(alloc: Global) -> Result<Vec<Shaped>, AllocError> {
     let mut all = Vec::new(alloc);
-    for points in POINTS {
-        for number in (0..1728).step_by(5) {
-            let region = region_of(alloc, points, number)?;
-            if region.points.len() <= 32 {
-                let (shape, _turn) = shape(alloc, &region, start(&region))?;
-                all.push(Shaped { region, shape })?;
-            }
-        }
+    for points in &POINTS {
+        add_shaped(alloc, points, &mut all)?;
     }
     Ok(all)
 }

@@ -38,7 +38,7 @@ const BENT: Drawn = (&[0, 1, 4], b".X.", b"X.X", b".X.");
 const LONG: Drawn = (&[0, 4, 8, 9], b"O...", b"XX..", b"...X");
 
 /// The other seven images of the long bent one.
-const IMAGES: [Drawn; 7] = [
+static IMAGES: [Drawn; 7] = [
     (&[1, 5, 8, 9], b"O...", b"XX..", b"..X."),
     (&[0, 1, 4, 8], b"...O", b"..XX", b".X.."),
     (&[4, 5, 9, 13], b"...O", b"..XX", b"X..."),
@@ -48,23 +48,50 @@ const IMAGES: [Drawn; 7] = [
     (&[4, 8, 9, 10], b"...O", b"..XX", b"X..."),
 ];
 
+/// Whether a drawing has a first one's shape, its colours the same way round, and the first place at the same one.
+fn likeness(
+    alloc: Global,
+    first: &(Shape, Turn),
+    drawn: Drawn,
+) -> Result<(bool, bool, bool), AllocError> {
+    let (shape, turn) = shape_of(alloc, drawn)?;
+    Ok((
+        shape == first.0,
+        turn.colours == first.1.colours,
+        turn.places[0] == first.1.places[0],
+    ))
+}
+
+/// Whether the corridor has the shape of its images, and the bent region another.
+fn is_told(alloc: Global, corridor: &(Shape, Turn)) -> bool {
+    matches!(likeness(alloc, corridor, FROM_RIGHT), Ok((true, true, _)))
+        && matches!(
+            likeness(alloc, corridor, EXCHANGED),
+            Ok((true, false, true))
+        )
+        && matches!(likeness(alloc, corridor, BENT), Ok((false, _, _)))
+}
+
 #[test]
 fn tells_shapes(rt: HostRuntime) -> Result<(), AllocError> {
-    let (first, turn) = shape_of(rt.alloc(), CORRIDOR)?;
-    let (second, same) = shape_of(rt.alloc(), FROM_RIGHT)?;
-    assert!(rt; first == second, "mirror");
-    assert!(rt; turn.colours == same.colours, "mirror keeps colours");
-    let (third, other) = shape_of(rt.alloc(), EXCHANGED)?;
-    assert!(rt; first == third, "exchanged");
-    assert!(rt; turn.colours != other.colours, "colours exchanged");
-    assert!(rt; turn.places[0] == other.places[0], "places");
-    let (bent, _) = shape_of(rt.alloc(), BENT)?;
-    assert!(rt; first != bent, "bent");
-    let (long, turn) = shape_of(rt.alloc(), LONG)?;
-    for (at, drawn) in IMAGES.into_iter().enumerate() {
-        let (image, same) = shape_of(rt.alloc(), drawn)?;
-        assert!(rt; image == long, "image {at}");
-        assert!(rt; turn.colours == same.colours, "colours {at}");
+    let corridor = shape_of(rt.alloc(), CORRIDOR)?;
+    assert!(rt; is_told(rt.alloc(), &corridor));
+    Ok(())
+}
+
+/// The first of the images that hasn't the shape, or has its colours the other way round.
+fn wrong_image(alloc: Global, long: &(Shape, Turn)) -> Option<usize> {
+    for (at, drawn) in IMAGES.iter().enumerate() {
+        if !matches!(likeness(alloc, long, *drawn), Ok((true, true, _))) {
+            return Some(at);
+        }
     }
+    None
+}
+
+#[test]
+fn images_have_the_shape(rt: HostRuntime) -> Result<(), AllocError> {
+    let long = shape_of(rt.alloc(), LONG)?;
+    assert_eq!(rt; wrong_image(rt.alloc(), &long), None);
     Ok(())
 }

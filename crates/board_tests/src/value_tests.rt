@@ -79,22 +79,37 @@ fn opening_value<L: Ledger>(
         .ok_or(FormError::Memory(AllocError))
 }
 
-#[test]
-fn openings(rt: HostRuntime) -> Result<(), FormError> {
-    let alloc = rt.alloc();
-    let mut store = Store::new(alloc);
+/// A star, and the switch between one and a star.
+fn star_and_switch(alloc: Global, store: &mut Store) -> Result<[GameId; 2], FormError> {
     let zero = store.number(Dyadic::whole(0))?;
     let one = store.number(Dyadic::whole(1))?;
-    let star = form(alloc, &mut store, &[zero], &[zero])?;
-    let switch = form(alloc, &mut store, &[one], &[star])?;
-    let rows = [
-        (ONE_POINT, 1, Ok(star)),
-        (TWO_POINTS, 2, Ok(switch)),
-        (TWO_POINTS, 1, Err(FormError::Parts)),
-    ];
-    for (at, (drawn, parts_limit, want)) in rows.into_iter().enumerate() {
-        let got = opening_value::<Brand>(alloc, Blank::new(1), &mut store, drawn, parts_limit);
-        assert_eq!(rt; got, want, "at {at}");
-    }
-    Ok(())
+    let star = form(alloc, store, &[zero], &[zero])?;
+    let switch = form(alloc, store, &[one], &[star])?;
+    Ok([star, switch])
+}
+
+/// Whether this is what comes of a region's opening.
+fn has_value(
+    alloc: Global,
+    store: &mut Store,
+    drawn: Drawing,
+    parts_limit: u32,
+    want: Result<GameId, FormError>,
+) -> bool {
+    opening_value::<Brand>(alloc, Blank::new(1), store, drawn, parts_limit) == want
+}
+
+/// Whether the openings have the values that are known.
+fn are_values(alloc: Global, store: &mut Store) -> Result<bool, FormError> {
+    let [star, switch] = star_and_switch(alloc, store)?;
+    Ok(
+        has_value(alloc, store, ONE_POINT, 1, Ok(star))
+            && has_value(alloc, store, TWO_POINTS, 2, Ok(switch))
+            && has_value(alloc, store, TWO_POINTS, 1, Err(FormError::Parts)),
+    )
+}
+
+#[test]
+fn openings(rt: HostRuntime) {
+    assert!(rt; are_values(rt.alloc(), &mut Store::new(rt.alloc())) == Ok(true));
 }

@@ -4,7 +4,6 @@ use gd_words::{Command, CycleQuestion, Job, Usage, read};
 use go_grid::Colour;
 use sgf_go::Settings;
 use std::alloc::{AllocError, Global};
-use std::test::Fail;
 
 /// Nothing set beside the file.
 const NOTHING_SET: Settings = Settings {
@@ -29,7 +28,7 @@ const PLAIN: Job<'static> = Job {
 };
 
 /// Words between tildes, and their jobs.
-const JOBS: [(&str, Job<'static>); 23] = [
+static JOBS: [(&str, Job<'static>); 24] = [
     ("solve~c", PLAIN),
     (
         "gtp~--board~yes",
@@ -60,6 +59,15 @@ const JOBS: [(&str, Job<'static>); 23] = [
         Job {
             command: Command::Gtp,
             cycles: true,
+            ..PLAIN
+        },
+    ),
+    (
+        "gtp~--cycles~yes~--board~yes",
+        Job {
+            command: Command::Gtp,
+            cycles: true,
+            keep_board: true,
             ..PLAIN
         },
     ),
@@ -209,7 +217,7 @@ const JOBS: [(&str, Job<'static>); 23] = [
 ];
 
 /// Words between tildes that are outside the grammar.
-const FAULTY: [&str; 54] = [
+static FAULTY: [&str; 53] = [
     "",
     "solve",
     "solve~",
@@ -259,7 +267,6 @@ const FAULTY: [&str; 54] = [
     "gtp~--tax~no",
     "gtp~--as~black",
     "gtp~--board~maybe",
-    "gtp~--board~yes~--cycles~yes",
     "play~c~--board~yes",
     "mend~c",
     "--help",
@@ -279,23 +286,39 @@ fn words_between(alloc: Global, text: &str) -> Result<Vec<&str>, AllocError> {
 }
 
 /// Whether the words have the job, or none.
-fn are_read(alloc: Global, text: &str, job: Result<Job<'_>, Usage>) -> Result<bool, AllocError> {
-    let words = words_between(alloc, text)?;
-    Ok(read(words.as_slice()) == job)
+fn are_read(alloc: Global, text: &str, job: Result<Job<'_>, Usage>) -> bool {
+    match words_between(alloc, text) {
+        Ok(words) => read(words.as_slice()) == job,
+        Err(_error) => false,
+    }
+}
+
+/// The first words with a job that have another.
+fn wrong_job(alloc: Global) -> Option<usize> {
+    for (at, row) in JOBS.iter().enumerate() {
+        if !are_read(alloc, row.0, Ok(row.1)) {
+            return Some(at);
+        }
+    }
+    None
+}
+
+/// The first faulty words that are read.
+fn wrong_faulty(alloc: Global) -> Option<usize> {
+    for (at, words) in FAULTY.iter().enumerate() {
+        if !are_read(alloc, words, Err(Usage)) {
+            return Some(at);
+        }
+    }
+    None
 }
 
 #[test]
-fn jobs(rt: HostRuntime) -> Result<(), Fail> {
-    for (words, job) in JOBS {
-        assert!(rt; are_read(rt.alloc(), words, Ok(job))?, "{words}");
-    }
-    Ok(())
+fn jobs(rt: HostRuntime) {
+    assert_eq!(rt; wrong_job(rt.alloc()), None);
 }
 
 #[test]
-fn faulty_words(rt: HostRuntime) -> Result<(), Fail> {
-    for words in FAULTY {
-        assert!(rt; are_read(rt.alloc(), words, Err(Usage))?, "{words}");
-    }
-    Ok(())
+fn faulty_words(rt: HostRuntime) {
+    assert_eq!(rt; wrong_faulty(rt.alloc()), None);
 }

@@ -1,4 +1,0 @@
-use Rattle.board_tests.proofs.value_tests.openings.Given as goal
-
-abbrev pub ghosts-opening_value : goal.ghosts-opening_value
-ghosts-opening_value g a = record { name = a.blank.name; parts = a.blank.parts }
