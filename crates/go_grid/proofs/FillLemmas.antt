@@ -197,13 +197,6 @@ part_marks c start within old w e is p = (
   λ j. (is p).1 (inr j),
 )
 
--- a look at each point of the list
-pub none_touches : (c start : ℕ) (within marks : List Bool) (w : Work)
-    → ((p : ℕ) → Joined c (IsMarked within) start p → IsListed 0 w p)
-    → ((i : ℕ) → i < w.count → ¬ Touches c marks (get_or w.points i 0))
-    → ¬ ((p : ℕ) × Joined c (IsMarked within) start p × Touches c marks p)
-none_touches c start within marks w listed none t = let l = listed t.0 t.1 in none l.0 l.2 (rw (← l.3) at t.2)
-
 -- what holds of the value, if there is one
 pub if_some : (o : Option ℕ) (P : ℕ → Type 0) → ((q : ℕ) → o ≡ Some q → P q) → IfSome o P
 if_some None P h = cc

@@ -151,29 +151,30 @@ pub(crate) fn spread(size: Size, within: &Points, work: &mut Work, start: Point)
     }
 }
 
-/// A fill that has met the points that walks over `within` join to `start`.
-fn part(size: Size, within: &Points, start: Point) -> Work
-    requires within { IsWithin (size.columns * size.rows) within.now }
-    requires starts { IsMarked within.now start }
-    ensures marks { Marks result.marks (Joined size.columns (IsMarked within.now) start) }
-    ensures listed { (p : ℕ) → Joined size.columns
-        (IsMarked within.now) start p ↔ IsListed 0 result p }
-    ensures inside { (i : ℕ) → i < result.count
-        → slice_index result.points i < size.columns * size.rows }
-    ensures most { result.count ≤ MOST_POINTS }
-{
-    let mut work = idle();
-    spread(size, within, &mut work, start);
-    work
-}
-
 /// The points that walks over `within` join to `start`.
 pub fn fill(size: Size, within: &Points, start: Point) -> Points
     requires within { IsWithin (size.columns * size.rows) within.now }
     requires starts { IsMarked within.now start }
     ensures { Marks result (Joined size.columns (IsMarked within.now) start) }
 {
-    part(size, within, start).marks
+    let mut work = idle();
+    spread(size, within, &mut work, start);
+    work.marks
+}
+
+/// Whether some point of the one set is next to a point of the other.
+pub fn adjoin(size: Size, points: &Points, marks: &Points) -> bool
+    requires points { IsWithin (size.columns * size.rows) points.now }
+    requires inside { IsWithin (size.columns * size.rows) marks.now }
+    ensures { (result ≡ true) ↔ ((p : ℕ) × IsMarked points.now p
+        × Touches size.columns marks.now p) }
+{
+    for number in 0..size.area() {
+        if marks.contains(Point(number)) && touches(size, points, Point(number)) {
+            return true;
+        }
+    }
+    false
 }
 
 /// Whether some point that walks over `within` join to `start` is next to a marked point.
@@ -184,13 +185,7 @@ pub fn part_touches(size: Size, within: &Points, start: Point, marks: &Points) -
     ensures { (result ≡ true) ↔ ((p : ℕ) × Joined size.columns (IsMarked within.now) start p
         × Touches size.columns marks.now p) }
 {
-    let work = part(size, within, start);
-    for index in 0..work.count {
-        if touches(size, marks, work.points[usize::from(index)]) {
-            return true;
-        }
-    }
-    false
+    touches(size, marks, start) || adjoin(size, &fill(size, within, start), marks)
 }
 
 /// The points that walks over `within` join to some point of `starts`.

@@ -14,7 +14,7 @@ mod region;
 mod sets;
 
 pub use boards::Board;
-pub use fills::{fill, fill_all, part_touches, touches};
+pub use fills::{adjoin, fill, fill_all, part_touches, touches};
 pub use grid::{Cell, Colour, MOST_POINTS, Point, Size};
 pub use names::{name, point_of};
 pub use near_points::{Near, NearPoints, neighbours};

@@ -71,7 +71,16 @@ impl Points {
         self.marks[usize::from(point.0)] = false;
     }
 
-    /// The points below a number for which the test holds.
+    /// Puts a point in where it is to be marked, else takes it out.
+    fn put(&mut self, point: Point, marked: bool)
+        requires { point < MOST_POINTS }
+        ensures { Marks self.new (λ q. (IsMarked self.old q × (q ≡ point → ⊥))
+            ⊎ ((marked ≡ true) × (q ≡ point))) }
+    {
+        self.marks[usize::from(point.0)] = marked;
+    }
+
+    /// The points below a number for which the test holds. Each is written, which runs several at a time where the test allows.
     pub fn chosen<F: Fn(Point) -> bool>(number: u16, test: F) -> Points
         requires number { number ≤ MOST_POINTS }
         requires test { (p : ℕ) → p < number → F.pre test p }
@@ -79,9 +88,7 @@ impl Points {
     {
         let mut points = Points::new();
         for at in 0..number {
-            if test(Point(at)) {
-                points.insert(Point(at));
-            }
+            points.put(Point(at), test(Point(at)));
         }
         points
     }

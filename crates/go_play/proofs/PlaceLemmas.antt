@@ -12,13 +12,13 @@ use Rattle.go_grid.specs.Chain.{InChain, HasLiberty}
 use Rattle.go_grid.proofs.BoardLemmas.{empty_not_stone, not_other, same_or_not}
 use Rattle.go_grid.proofs.PlayLemmas.{one_outcome}
 use Rattle.go_grid.proofs.PointsLemmas.{Noted}
-use Rattle.go_grid.proofs.WalkLemmas.{joined_start, marks_joined}
-use Rattle.go_grid.proofs.ChainLemmas.{liberty_marks}
+use Rattle.go_grid.proofs.WalkLemmas.{joined_back, joined_join, joined_start, marks_joined}
+use Rattle.go_grid.proofs.ChainLemmas.{liberty_marks, same_liberty}
 use Rattle.go_play.specs.declared.placements.PlaceError.{PlaceError}
 use Rattle.go_play.specs.declared.placements.PlaceError.TheVariants.{Occupied, Suicide}
 use Rattle.go_play.specs.Place.{IsTaken, IsCleared, IsPlaced, Breathes, PlacesStone}
 use Rattle.go_play.specs.inner.Place.{with_stone}
-use Rattle.go_play.specs.inner.Tried.{IsLost, Judges}
+use Rattle.go_play.specs.inner.Tried.{AreJudged, IsLost, Judges}
 use Rattle.go_play.proofs.BoardPlayLemmas.{breathes_from, breathes_to, chain_to, taken_stone, takes}
 
 -- a placing leads to one board
@@ -55,6 +55,37 @@ none_lost b d s old not q = (
   λ m. inl m,
   λ h. elim h as (λ _. IsMarked old q) [ inl o ↦ o | inr l ↦ absurd (not l.0 l.1) ],
 )
+
+-- a chain has a liberty exactly where a point of it is next to an empty one
+pub free_chain : (b : Board) (d : Colour) (s : ℕ) (theirs empty chain : List Bool) → Marks theirs (HasStone b d)
+    → Marks empty (IsEmpty b) → Marks chain (Joined b.columns (IsMarked theirs) s)
+    → ((p : ℕ) × IsMarked chain p × Touches b.columns empty p) ↔ HasLiberty b d s
+free_chain b d s theirs empty chain ist ise isc =
+    let by = liberty_marks b d s theirs empty ist ise in (
+      λ t. by.0 (t.0, (isc t.0).0 t.1, t.2),
+      λ l. let t = by.1 l in (t.0, (isc t.0).1 t.1, t.2),
+    )
+
+-- what was lost before and is judged is marked already
+pub lost_before : (b : Board) (d : Colour) (s : ℕ) (judged taken : List Bool) → AreJudged b d judged taken → IsMarked judged s
+    → Marks taken (λ q. IsMarked taken q ⊎ IsLost b d s q)
+lost_before b d s judged taken before on q = (
+  λ m. inl m,
+  λ h. elim h as (λ _. IsMarked taken q) [ inl o ↦ o | inr l ↦ before s q on l ],
+)
+
+-- the chain of one more stone is judged: all of its stones have a liberty, or all of them are taken
+pub judged_chain : (b : Board) (d : Colour) (s : ℕ) (chain judged now taken new : List Bool) → AreJudged b d judged taken
+    → Marks chain (InChain b d s) → Marks now (λ q. IsMarked judged q ⊎ IsMarked chain q)
+    → ((q : ℕ) → IsMarked taken q → IsMarked new q) → (¬ HasLiberty b d s → (q : ℕ) → IsMarked chain q → IsMarked new q)
+    → AreJudged b d now new
+judged_chain b d s chain judged now taken new before isc isn kept lost t q m l = elim ((isn t).0 m) as (λ _. IsMarked new q) [
+  | inl old ↦ kept q (before t q old l)
+  | inr k ↦
+      let j = (isc t).0 k in
+      lost (λ free. l.1 (same_liberty b d t s (joined_back b.columns (HasStone b d) s t j) free)) q
+      ((isc q).1 (joined_join b.columns (HasStone b d) s t q j l.2))
+]
 
 module _ (g : Board) (p : ℕ) (c : Colour) where
   abbrev b : Board

@@ -7,9 +7,9 @@ ghost use Rattle.go_grid.specs.declared.grid.Cell.{Cell};
 ghost use Rattle.go_grid.specs.Play.{IsWithout};
 ghost use Rattle.go_play.specs.Place.{Breathes, IsCleared, IsSameGround, IsTaken, PlacesStone};
 ghost use Rattle.go_play.specs.inner.Place.{with_stone};
-ghost use Rattle.go_play.specs.inner.Tried.{IsTried, IsLost, Judges};
+ghost use Rattle.go_play.specs.inner.Tried.{AreJudged, IsTried, IsLost, Judges};
 
-use go_grid::{Board, Cell, Colour, NearPoints, Point, Points, fill, part_touches};
+use go_grid::{Board, Cell, Colour, NearPoints, Point, Points, adjoin, fill, part_touches};
 use thiserror::Error;
 
 /// Why a stone may not be placed.
@@ -48,23 +48,54 @@ fn try_stone(board: &Board, point: Point, colour: Colour) -> Tried
     }
 }
 
-/// Adds the chain at a point to the taken stones, if it is the other colour's and has no liberty.
+/// Looks at the other colour's chain at a point, and adds it to the taken stones if it has no liberty.
+fn judge_chain(
+    board: &Board,
+    point: Point,
+    colour: Colour,
+    tried: &Tried,
+    stone: Point,
+    judged: &mut Points,
+    taken: &mut Points,
+)
+    requires tried { IsTried board.now point colour tried.now }
+    requires theirs { IsMarked tried.now.theirs stone }
+    requires judged { AreJudged (with_stone board.now point colour) (other colour)
+        judged.old taken.old }
+    ensures judged { AreJudged (with_stone board.now point colour) (other colour)
+        judged.new taken.new }
+    ensures taken { Marks taken.new (λ q. IsMarked taken.old q
+        ⊎ IsLost (with_stone board.now point colour) (other colour) stone q) }
+{
+    let size = board.size();
+    let chain = fill(size, &tried.theirs, stone);
+    *judged = judged.union(&chain);
+    if !adjoin(size, &chain, &tried.empty) {
+        *taken = taken.union(&chain);
+    }
+}
+
+/// Adds the chain at a point to the taken stones, if it is the other colour's and has no liberty. A chain that was
+/// looked at from another of its stones isn't walked over again.
 fn take_chain(
     board: &Board,
     point: Point,
     colour: Colour,
     tried: &Tried,
     stone: Point,
+    judged: &mut Points,
     taken: &mut Points,
 )
     requires tried { IsTried board.now point colour tried.now }
-    requires stone { stone < length board.now.cells }
-    ensures { Marks taken.new (λ q. IsMarked taken.old q
+    requires judged { AreJudged (with_stone board.now point colour) (other colour)
+        judged.old taken.old }
+    ensures judged { AreJudged (with_stone board.now point colour) (other colour)
+        judged.new taken.new }
+    ensures taken { Marks taken.new (λ q. IsMarked taken.old q
         ⊎ IsLost (with_stone board.now point colour) (other colour) stone q) }
 {
-    let size = board.size();
-    if tried.theirs.contains(stone) && !part_touches(size, &tried.theirs, stone, &tried.empty) {
-        *taken = taken.union(&fill(size, &tried.theirs, stone));
+    if tried.theirs.contains(stone) && !judged.contains(stone) {
+        judge_chain(board, point, colour, tried, stone, judged, taken);
     }
 }
 
@@ -76,9 +107,10 @@ fn taken(board: &Board, point: Point, colour: Colour, tried: &Tried) -> Points
 {
     let mut around = NearPoints::new();
     around.look_around(board.size(), point);
+    let mut judged = Points::new();
     let mut taken = Points::new();
     for stone in around.as_slice() {
-        take_chain(board, point, colour, tried, *stone, &mut taken);
+        take_chain(board, point, colour, tried, *stone, &mut judged, &mut taken);
     }
     taken
 }

@@ -4,7 +4,7 @@ use Rattle.go_grid.specs.declared.grid.Cell.{Cell}
 use Rattle.go_grid.specs.declared.grid.Colour.{Colour}
 use Rattle.go_grid.specs.Board.{Board, HasStone, IsEmpty, other}
 use Rattle.go_grid.specs.Chain.{InChain, HasLiberty}
-use Rattle.go_grid.specs.Marks.{Marks}
+use Rattle.go_grid.specs.Marks.{IsMarked, Marks}
 use Rattle.go_play.specs.declared.placements.PlaceError.{PlaceError}
 use Rattle.go_play.specs.declared.placements.PlaceError.TheVariants.{Occupied, Suicide}
 use Rattle.go_play.specs.declared.placements.Tried.{Tried}
@@ -20,6 +20,10 @@ pub record IsTried (g : Board) (p : ℕ) (c : Colour) (t : Tried) : Type 0 where
 -- `q` is of the chain of `s`, a stone of the colour without a liberty
 abbrev pub IsLost : Board → Colour → ℕ → ℕ → Type 0
 IsLost b d s q = HasStone b d s × ¬ HasLiberty b d s × InChain b d s q
+
+-- what of the judged stones has no liberty is taken with its chain
+abbrev pub AreJudged : Board → Colour → List Bool → List Bool → Type 0
+AreJudged b d judged taken = (s q : ℕ) → IsMarked judged s → IsLost b d s q → IsMarked taken q
 
 -- how a placing is judged: the stones that it takes where it is legal, or why it is refused
 abbrev pub Judges : Board → ℕ → Colour → Result (List Bool) PlaceError → Type 0
