@@ -87,6 +87,11 @@ module _ {K : Type 0} (Same : K → K → Type 0) where
     | inr (is, inr (old, there, key)) ↦ inr (same k e.0 key, is)
   ]
 
+-- what stands after an answer was put, where others had given way
+pub kept_later : {K : Type 0} (Same : K → K → Type 0) (before middle now : List (K × Bool)) (k : K) (answer : Bool)
+    → NoneIsNew before middle → AreKept Same middle k answer now → AreKept Same before k answer now
+kept_later Same before middle now k answer none kept e among = elim (kept e among) [ inl was ↦ inl (none e was) | inr new ↦ inr new ]
+
 pub none_new : {K : Type 0} (test : K → Bool) (before now : LruCache K Bool) → now ≡ lru_cache (promoted test before.entries) before.cap → NoneIsNew before.entries now.entries
 none_new test before now e x among = Contains-promoted test before.entries x (subst (λ c. Contains c.entries x) e among)
 

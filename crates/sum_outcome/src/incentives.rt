@@ -1,6 +1,6 @@
 //! Which moves in a sum need not be tried, since one in another game is better, or as good and in an earlier one.
 
-ghost use Rattle.std.specs.Prelude.{◌≡◌, ◌<◌, ◌↔◌, length, Contains, IsTrue, IfSome, ◌⊎◌};
+ghost use Rattle.std.specs.Prelude.{◌≡◌, ◌<◌, ◌↔◌, List, length, Contains, IsTrue, IfSome, ◌⊎◌};
 ghost use Rattle.short_games.specs.Tree.{Tree, Has, tree_at};
 ghost use Rattle.game_store.specs.Meaning.{pick, AreIds, AreBelow};
 ghost use Rattle.sum_outcome.specs.inner.Search.{IsMove, StoodBefore};
@@ -44,12 +44,78 @@ fn recall_incentive(answers: &mut Answers, pair: MovePair) -> Option<bool>
     answers.get(&pair).copied()
 }
 
-/// Remembers the answer for a pair, or leaves it out where memory is wanting.
+/// The older half of the answers gives way.
+fn shed_answers(answers: &mut Answers)
+    ensures kept { NoneIsNew answers.old.entries answers.new.entries }
+    ensures cap { answers.new.cap ≡ answers.old.cap }
+{
+    let most = answers.len() / 2;
+    'shedding: while answers.len() > most {
+        let _oldest = answers.pop_lru();
+    }
+}
+
+/// Remembers the answer for a pair. Where memory is wanting the older half gives way, and where that isn't enough it is left
+/// out.
 fn remember_incentive(answers: &mut Answers, pair: MovePair, answer: bool)
     ensures kept { AreKept (λ p q. p ≡ q) answers.old.entries pair answer answers.new.entries }
     ensures cap { answers.new.cap ≡ answers.old.cap }
 {
-    let _kept = answers.put(pair, answer);
+    match answers.put(pair, answer) {
+        Ok(_) => {}
+        Err(_) => {
+            shed_answers(answers);
+            let _kept = answers.put(pair, answer);
+        }
+    }
+}
+
+/// Whether the incentive of the first of two moves is at least that of the second, by the comparisons alone, unless memory is
+/// wanting.
+fn compared(alloc: Global, store: &Store, known: &mut Incentives, pair: MovePair) -> Option<bool>
+    requires ids { AreStoredMoves store.now pair }
+    requires right { IsKnownRight store.now known.old }
+    ensures answer { IfSome result (λ answer. IsTrue answer ↔ IsAtLeast store.now pair) }
+    ensures right { IsKnownRight store.now known.new }
+    ensures cap { known.new.answers.cap ≡ known.old.answers.cap }
+{
+    let Ok(answer) = compare_incentives(
+        alloc,
+        &mut known.comparisons,
+        store,
+        pair.game,
+        pair.option,
+        pair.other,
+        pair.other_option,
+    ) else {
+        return None;
+    };
+    Some(answer)
+}
+
+/// Forgets what may be found out anew: all comparisons, and the older half of the answers.
+fn make_way(alloc: Global, known: &mut Incentives)
+    ensures right { (Ts : List Tree) → IsKnownRight Ts known.old → IsKnownRight Ts known.new }
+    ensures cap { known.new.answers.cap ≡ known.old.answers.cap }
+{
+    known.comparisons = SumComparisons::new(alloc);
+    shed_answers(&mut known.answers);
+}
+
+/// Whether the incentive of the first of two moves is at least that of the second, found out by the comparisons. Where memory
+/// is wanting what is known gives way once.
+fn found_out(alloc: Global, store: &Store, known: &mut Incentives, pair: MovePair) -> Option<bool>
+    requires ids { AreStoredMoves store.now pair }
+    requires right { IsKnownRight store.now known.old }
+    ensures answer { IfSome result (λ answer. IsTrue answer ↔ IsAtLeast store.now pair) }
+    ensures right { IsKnownRight store.now known.new }
+    ensures cap { known.new.answers.cap ≡ known.old.answers.cap }
+{
+    if let Some(answer) = compared(alloc, store, known, pair) {
+        return Some(answer);
+    }
+    make_way(alloc, known);
+    compared(alloc, store, known, pair)
 }
 
 /// Whether the incentive of the first of two moves is at least that of the second, unless memory is wanting.
@@ -68,17 +134,7 @@ pub(crate) fn is_at_least(
     if let Some(answer) = recall_incentive(&mut known.answers, pair) {
         return Some(answer);
     }
-    let Ok(answer) = compare_incentives(
-        alloc,
-        &mut known.comparisons,
-        store,
-        pair.game,
-        pair.option,
-        pair.other,
-        pair.other_option,
-    ) else {
-        return None;
-    };
+    let answer = found_out(alloc, store, known, pair)?;
     remember_incentive(&mut known.answers, pair, answer);
     Some(answer)
 }

@@ -3,13 +3,17 @@
 ghost use Rattle.std.specs.Prelude.{◌≡◌, List, IfOk, IfSome};
 ghost use Rattle.std.specs.NonZero.{non_zero_usize_get};
 ghost use Rattle.short_games.specs.Tree.{Tree};
+ghost use Rattle.game_store.specs.Meaning.{pick, AreIds};
 ghost use Rattle.sum_outcome.specs.Memo.{blank_search};
-ghost use Rattle.sum_outcome.specs.inner.Memo.{remembered, AreSame, IsAmong, AreKept, NoneIsNew, IsRight, StaysRight, IsRecalled, Learns};
+ghost use Rattle.sum_outcome.specs.Sums.{IsBounded};
+ghost use Rattle.sum_outcome.specs.inner.Memo.{remembered, AreSame, IsAmong, AreKept, NoneIsNew, IsKeyOf, IsRight, StaysRight, IsRecalled, Learns};
 
 use crate::incentives::Incentives;
-use crate::key::Key;
+use crate::key::{Key, key_of};
+use dyadic_num::Dyadic;
 use game_canon::SumComparisons;
-use game_store::GameId;
+use game_store::{GameId, Store};
+use go_grid::Colour;
 use lru::LruCache;
 use std::alloc::{AllocError, Global};
 use std::num::NonZeroUsize;
@@ -26,12 +30,30 @@ fn look_up(sums: &mut Sums, key: &Key) -> Option<bool>
     sums.get(key).copied()
 }
 
-/// Keeps an answer for a sum, or leaves it out where memory is wanting.
+/// The older half of what is kept gives way.
+fn shed(sums: &mut Sums)
+    ensures kept { NoneIsNew sums.old.entries sums.new.entries }
+    ensures cap { sums.new.cap ≡ sums.old.cap }
+{
+    let most = sums.len() / 2;
+    'shedding: while sums.len() > most {
+        let _oldest = sums.pop_lru();
+    }
+}
+
+/// Keeps an answer for a sum. Where memory is wanting the older half gives way, and where that isn't enough it is left out.
 fn keep(sums: &mut Sums, key: Key, lost: bool)
     ensures kept { AreKept AreSame sums.old.entries key lost sums.new.entries }
     ensures cap { sums.new.cap ≡ sums.old.cap }
 {
-    let _kept = sums.put(key, lost);
+    match sums.put(key, lost) {
+        Ok(_) => {}
+        Err(refused) => {
+            shed(sums);
+            let (key, lost) = refused.value;
+            let _kept = sums.put(key, lost);
+        }
+    }
 }
 
 /// Who loses sums, and which moves are as good as others. Of each the latest that were used stay.
@@ -76,4 +98,24 @@ impl Memo {
     {
         keep(&mut self.sums, key, lost);
     }
+}
+
+/// The key of a sum for the player who is to move, unless memory is wanting even after the older half of the sums gave way.
+pub(crate) fn key_in(
+    store: &Store,
+    memo: &mut Memo,
+    sum: &[GameId],
+    number: Dyadic,
+    side: Colour,
+) -> Option<Key>
+    requires ids { AreIds store.now sum.now }
+    requires bounds { IsBounded (pick store.now sum.now) number }
+    ensures key { IfSome result (λ key. IsKeyOf store.now sum.now number side key) }
+    ensures right { (Ts : List Tree) → IsRight Ts memo.old → StaysRight Ts memo.old memo.new }
+{
+    if let Some(key) = key_of(memo.alloc, store, sum, number, side) {
+        return Some(key);
+    }
+    shed(&mut memo.sums);
+    key_of(memo.alloc, store, sum, number, side)
 }

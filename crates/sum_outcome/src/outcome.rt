@@ -16,8 +16,7 @@ ghost use Rattle.sum_outcome.specs.inner.Opposites.{MayCancel};
 ghost use Rattle.sum_outcome.specs.inner.Search.{HasNonNumber, IsSign, WinsAt};
 
 use crate::incentives::{is_dominated, is_repeated, moves};
-use crate::key::key_of;
-use crate::memo::Memo;
+use crate::memo::{Memo, key_in};
 use crate::opposites::{Opposites, find_opposites};
 use dyadic_num::Dyadic;
 use game_stops::{left_stop, right_stop};
@@ -94,7 +93,7 @@ pub(crate) fn loses_sum(
     if let Some(sign) = sign_by_stops(store, sum, number) {
         return loses_at(sign, side);
     }
-    let Some(key) = key_of(memo.alloc, store, sum, number, side) else {
+    let Some(key) = key_in(store, memo, sum, number, side) else {
         return loses_by_moves(store, memo, sum, number, side);
     };
     if let Some(lost) = memo.recall(&key) {

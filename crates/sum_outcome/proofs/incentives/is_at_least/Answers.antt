@@ -7,12 +7,12 @@ returns-in-Some-clause-answer c = (c.requires.right.0 (c.args.pair, c.in-Some.an
 pub returns-in-Some-clause-right : goal.returns-in-Some-clause-right
 returns-in-Some-clause-right c = (λ e among. c.requires.right.0 e (c.recall_incentive.ensures.kept e among), c.requires.right.1)
 
-pub returns-in_default-compare_incentives-clause-right : goal.returns-in_default-compare_incentives-clause-right
-returns-in_default-compare_incentives-clause-right c = (λ e among. c.requires.right.0 e (c.recall_incentive.ensures.kept e among), c.compare_incentives.ensures.right)
+pub found_out-requires-clause-right : goal.found_out-requires-clause-right
+found_out-requires-clause-right c = (λ e among. c.requires.right.0 e (c.recall_incentive.ensures.kept e among), c.requires.right.1)
 
 pub returns-clause-right : goal.returns-clause-right
 returns-clause-right c = (
-  incentives_kept c.args.store.now c.recall_incentive.new.answers.entries c.remember_incentive.new.answers.entries c.args.pair c.in-Ok.answer
-      (c.requires.ids, (c.in-Ok.ensures {u = tt}).answer) c.remember_incentive.ensures.kept (λ e among. c.requires.right.0 e (c.recall_incentive.ensures.kept e among)),
-  c.compare_incentives.ensures.right,
+  incentives_kept c.args.store.now c.found_out.new.known.answers.entries c.remember_incentive.new.answers.entries c.args.pair c.in_ok-answer.answer
+      (c.requires.ids, c.in_ok-answer.ensures.answer) c.remember_incentive.ensures.kept c.found_out.ensures.right.0,
+  c.found_out.ensures.right.1,
 )

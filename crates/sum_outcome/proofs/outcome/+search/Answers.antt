@@ -11,29 +11,53 @@ use Rattle.sum_outcome.proofs.outcome.+search.Goals as goal
 pub loses_sum-returns-in-Some-sign_by_stops-clause-answer : goal.loses_sum-returns-in-Some-sign_by_stops-clause-answer
 loses_sum-returns-in-Some-sign_by_stops-clause-answer t c = c.loses_at.ensures (sum_tree c.args.store.now c.args.sum.now c.args.number) c.in-Some-sign_by_stops.ensures
 
+pub loses_sum-loses_by_moves-requires : goal.loses_sum-loses_by_moves-requires
+loses_sum-loses_by_moves-requires t c = (
+  omega (arith, c.decreases),
+  (c.requires.ids, (c.requires.bounds, (c.in_default-sign_by_stops.ensures, (c.key_in.ensures.right c.args.store.now c.find_opposites.ensures.right.right).right))),
+)
+
+pub loses_sum-returns-in_default-key_in-clause-right : goal.loses_sum-returns-in_default-key_in-clause-right
+loses_sum-returns-in_default-key_in-clause-right t c =
+    let Ts = c.args.store.now in
+    let found = c.find_opposites.ensures.right in
+    let keyed = c.key_in.ensures.right Ts found.right in
+    stays_on Ts c.args.memo.now c.key_in.new.memo c.loses_by_moves.new.memo
+    (stays_on Ts c.args.memo.now c.find_opposites.new.memo c.key_in.new.memo found keyed) c.loses_by_moves.ensures.right
+
 pub loses_sum-returns-in-Some-recall-clause-answer : goal.loses_sum-returns-in-Some-recall-clause-answer
 loses_sum-returns-in-Some-recall-clause-answer t c =
-    from_key c.args.store.now c.args.sum.now c.args.number c.args.side c.in-Some-key_of.key c.in-Some-recall.lost (c.in-Some-key_of.ensures {u = tt}) (c.in-Some-recall.ensures.answer c.args.store.now c.find_opposites.ensures.right.right).1
+    let Ts = c.args.store.now in
+    from_key Ts c.args.sum.now c.args.number c.args.side c.in-Some-key_in.key c.in-Some-recall.lost (c.in-Some-key_in.ensures {u = tt}).key
+    (c.in-Some-recall.ensures.answer Ts (c.key_in.ensures.right Ts c.find_opposites.ensures.right.right).right).1
 
 pub loses_sum-returns-in-Some-recall-clause-right : goal.loses_sum-returns-in-Some-recall-clause-right
 loses_sum-returns-in-Some-recall-clause-right t c =
-    let found = c.find_opposites.ensures.right in stays_on c.args.store.now c.args.memo.now c.find_opposites.new.memo c.recall.new.self found (c.recall.ensures.right c.args.store.now found.right)
+    let Ts = c.args.store.now in
+    let found = c.find_opposites.ensures.right in
+    let keyed = c.key_in.ensures.right Ts found.right in
+    stays_on Ts c.args.memo.now c.key_in.new.memo c.recall.new.self
+    (stays_on Ts c.args.memo.now c.find_opposites.new.memo c.key_in.new.memo found keyed) (c.recall.ensures.right Ts keyed.right)
 
 pub loses_sum-loses_by_moves-lost-requires : goal.loses_sum-loses_by_moves-lost-requires
-loses_sum-loses_by_moves-lost-requires t c = (
-  omega (arith, c.decreases),
-  (c.requires.ids, (c.requires.bounds, (c.in_default-sign_by_stops.ensures, (c.recall.ensures.right c.args.store.now c.find_opposites.ensures.right.right).right))),
-)
+loses_sum-loses_by_moves-lost-requires t c =
+    let Ts = c.args.store.now in
+    let keyed = c.key_in.ensures.right Ts c.find_opposites.ensures.right.right in (
+      omega (arith, c.decreases),
+      (c.requires.ids, (c.requires.bounds, (c.in_default-sign_by_stops.ensures, (c.recall.ensures.right Ts keyed.right).right))),
+    )
 
 pub loses_sum-returns-clause-right : goal.loses_sum-returns-clause-right
 loses_sum-returns-clause-right t c =
     let Ts = c.args.store.now in
     let found = c.find_opposites.ensures.right in
+    let keyed = c.key_in.ensures.right Ts found.right in
     let a = c.loses_by_moves-lost.ensures in
     stays_on Ts c.args.memo.now c.loses_by_moves-lost.new.memo c.remember.new.self
     (stays_on Ts c.args.memo.now c.recall.new.self c.loses_by_moves-lost.new.memo
-    (stays_on Ts c.args.memo.now c.find_opposites.new.memo c.recall.new.self found (c.recall.ensures.right Ts found.right)) a.right)
-    (c.remember.ensures Ts (to_key Ts c.args.sum.now c.args.number c.args.side c.in-Some-key_of.key c.loses_by_moves-lost.result (c.in-Some-key_of.ensures {u = tt}) a.answer) a.right.right)
+    (stays_on Ts c.args.memo.now c.key_in.new.memo c.recall.new.self
+    (stays_on Ts c.args.memo.now c.find_opposites.new.memo c.key_in.new.memo found keyed) (c.recall.ensures.right Ts keyed.right)) a.right)
+    (c.remember.ensures Ts (to_key Ts c.args.sum.now c.args.number c.args.side c.in-Some-key_in.key c.loses_by_moves-lost.result (c.in-Some-key_in.ensures {u = tt}).key a.answer) a.right.right)
 
 pub loses_without-loses_sum-lost-requires : goal.loses_without-loses_sum-lost-requires
 loses_without-loses_sum-lost-requires t c =
