@@ -152,7 +152,7 @@ pub stays_on : (Ts : List Tree) (a b c : Memo) → StaysRight Ts a b → StaysRi
 stays_on Ts a b c p q = record { right = q.right; sums = q.sums ∙ p.sums; incentives = q.incentives ∙ p.incentives }
 
 pub incentives_changed : (Ts : List Tree) (a b : Memo) (now : Incentives) → StaysRight Ts a b → IsKnownRight Ts now → now.answers.cap ≡ b.incentives.answers.cap
-    → StaysRight Ts a (record { sums = b.sums; incentives = now; zero = b.zero; alloc = b.alloc })
+    → StaysRight Ts a (record { sums = b.sums; incentives = now; zero = b.zero; held = b.held; alloc = b.alloc })
 incentives_changed Ts a b now w right cap = record { right = record { sums = w.right.sums; incentives = right.0; comparisons = right.1; zero = w.right.zero }; sums = w.sums; incentives = cap ∙ w.incentives }
 
 -- more forms change nothing

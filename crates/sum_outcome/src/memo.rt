@@ -18,6 +18,9 @@ use lru::LruCache;
 use std::alloc::{AllocError, Global};
 use std::num::NonZeroUsize;
 
+/// How many bytes a search takes at once and holds back: enough for some thousands of sums and comparisons.
+const HELD_BACK: usize = 1 << 20;
+
 /// Whether the player who is to move loses, for sums by their keys.
 type Sums = LruCache<Key, bool>;
 
@@ -41,15 +44,27 @@ fn shed(sums: &mut Sums)
     }
 }
 
-/// Keeps an answer for a sum. Where memory is wanting the older half gives way, and where that isn't enough it is left out.
-fn keep(sums: &mut Sums, key: Key, lost: bool)
+/// Makes room where memory is wanting: what was held back is given free, or else the older half of the sums gives way.
+fn make_room(sums: &mut Sums, held: &mut Vec<u8>, alloc: Global)
+    ensures kept { NoneIsNew sums.old.entries sums.new.entries }
+    ensures cap { sums.new.cap ≡ sums.old.cap }
+{
+    if held.capacity() > 0 {
+        *held = Vec::new(alloc);
+    } else {
+        shed(sums);
+    }
+}
+
+/// Keeps an answer for a sum. Where memory is wanting room is made once, and where that isn't enough it is left out.
+fn keep(sums: &mut Sums, held: &mut Vec<u8>, alloc: Global, key: Key, lost: bool)
     ensures kept { AreKept AreSame sums.old.entries key lost sums.new.entries }
     ensures cap { sums.new.cap ≡ sums.old.cap }
 {
     match sums.put(key, lost) {
         Ok(_) => {}
         Err(refused) => {
-            shed(sums);
+            make_room(sums, held, alloc);
             let (key, lost) = refused.value;
             let _kept = sums.put(key, lost);
         }
@@ -63,11 +78,13 @@ pub(crate) struct Memo {
     pub(crate) incentives: Incentives,
     /// The id of 0, which may stand for games that cancel.
     pub(crate) zero: Option<GameId>,
+    /// Memory that is held back from the beginning for when it is wanting.
+    pub(crate) held: Vec<u8>,
     pub(crate) alloc: Global,
 }
 
 impl Memo {
-    /// Nothing is remembered yet. The room for entries grows as they come.
+    /// Nothing is remembered yet. The room for entries grows as they come; what is held back is taken at once.
     pub(crate) fn new(alloc: Global, entries: NonZeroUsize) -> Result<Memo, AllocError>
         ensures empty { IfOk result
             (λ memo. remembered memo ≡ blank_search (non_zero_usize_get entries)) }
@@ -80,6 +97,7 @@ impl Memo {
                 comparisons: SumComparisons::new(alloc),
             },
             zero: None,
+            held: Vec::with_capacity(alloc, HELD_BACK)?,
             alloc,
         })
     }
@@ -96,11 +114,11 @@ impl Memo {
     pub(crate) fn remember(&mut self, key: Key, lost: bool)
         ensures { Learns key lost self.old self.new }
     {
-        keep(&mut self.sums, key, lost);
+        keep(&mut self.sums, &mut self.held, self.alloc, key, lost);
     }
 }
 
-/// The key of a sum for the player who is to move, unless memory is wanting even after the older half of the sums gave way.
+/// The key of a sum for the player who is to move, unless memory is wanting even where room was made.
 pub(crate) fn key_in(
     store: &Store,
     memo: &mut Memo,
@@ -116,6 +134,6 @@ pub(crate) fn key_in(
     if let Some(key) = key_of(memo.alloc, store, sum, number, side) {
         return Some(key);
     }
-    shed(&mut memo.sums);
+    make_room(&mut memo.sums, &mut memo.held, memo.alloc);
     key_of(memo.alloc, store, sum, number, side)
 }

@@ -1,4 +1,4 @@
-use Rattle.std.proofs.Common.{◌≡◌, ℕ, length}
+use Rattle.std.proofs.Common.{◌≡◌, length}
 use Rattle.sum_outcome.specs.inner.Memo.{NoneIsNew}
 use Rattle.sum_outcome.proofs.incentives.shed_answers.Given as goal
 

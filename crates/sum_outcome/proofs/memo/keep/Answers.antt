@@ -9,8 +9,8 @@ returns-in-Ok-clause-kept c = put_kept AreSame same_key same_key-are (λ k. reco
 pub returns-in-Err-clause-kept : goal.returns-in-Err-clause-kept
 returns-in-Err-clause-kept c =
     let w = c.in-Err.ensures {u = tt} in
-    let one = put_kept AreSame same_key same_key-are (λ k. record { games = refl; number = refl; black = refl }) c.shed.new.sums c.put-kept.new.self
+    let one = put_kept AreSame same_key same_key-are (λ k. record { games = refl; number = refl; black = refl }) c.make_room.new.sums c.put-kept.new.self
     c.in-Err.refused.value.0 c.in-Err.refused.value.1 c.put-kept.result c.put-kept.ensures.entries c.put-kept.ensures.err in
-    kept_later AreSame c.args.sums.now.entries c.shed.new.sums.entries c.put-kept.new.self.entries c.args.key c.args.lost
-    (subst (λ s. NoneIsNew s.entries c.shed.new.sums.entries) w.err c.shed.ensures.kept)
-    (subst (λ v. AreKept AreSame c.shed.new.sums.entries v.0 v.1 c.put-kept.new.self.entries) w.value_returned one)
+    kept_later AreSame c.args.sums.now.entries c.make_room.new.sums.entries c.put-kept.new.self.entries c.args.key c.args.lost
+    (subst (λ s. NoneIsNew s.entries c.make_room.new.sums.entries) w.err c.make_room.ensures.kept)
+    (subst (λ v. AreKept AreSame c.make_room.new.sums.entries v.0 v.1 c.put-kept.new.self.entries) w.value_returned one)

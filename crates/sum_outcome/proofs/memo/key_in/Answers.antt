@@ -7,7 +7,7 @@ returns-in-Some-clause-right c Ts right = stays Ts c.args.memo.now right
 
 pub returns-clause-right : goal.returns-clause-right
 returns-clause-right c Ts right = record {
-  right = record { sums = λ e among. right.sums e (c.shed.ensures.kept e among); incentives = right.incentives; comparisons = right.comparisons; zero = right.zero };
-  sums = c.shed.ensures.cap;
+  right = record { sums = λ e among. right.sums e (c.make_room.ensures.kept e among); incentives = right.incentives; comparisons = right.comparisons; zero = right.zero };
+  sums = c.make_room.ensures.cap;
   incentives = refl;
 }
