@@ -1,5 +1,5 @@
 -- The numbers of a changed form are the changed numbers of the form.
-use Rattle.std.proofs.Common.{ℕ, List, length, get_or, ◌<◌, ◌≡◌, ◌↔◌, refl, sym, ◌∙◌, inl, inr, ap, subst, ℤ, pos, ◌+ℤ◌, neg_ℤ, arith}
+use Rattle.std.proofs.Common.{ℕ, suc, List, ◌∷◌, length, get_or, ◌<◌, ◌≡◌, ◌↔◌, refl, sym, ◌∙◌, inl, inr, ap, subst, ℤ, pos, ◌+ℤ◌, neg_ℤ, arith}
 use Rattle.std.proofs.lemmas.Int.{ints, by_lt_z}
 use Rattle.dyadic_num.specs.Units.{IsInBounds}
 use Rattle.short_games.specs.Tree.{Tree, Trees, node, none, more, left, right, Has, tree_at}
@@ -7,10 +7,10 @@ use Rattle.short_games.specs.Order.{◌≤ᵍ◌}
 use Rattle.short_games.specs.Number.{num, IsNumberTree, number_tree}
 use Rattle.short_games.specs.TextOrder.{TextBefore, sorted, IsCanonicalTree, IsCanonicalFor}
 use Rattle.short_games.specs.Sum.{◌+ᵍ◌}
-use Rattle.game_store.specs.Meaning.{pick, AreBelow, Wanted}
+use Rattle.game_store.specs.Meaning.{pick, listed, form, AreIds, AreBelow, Wanted}
 use Rattle.game_store.specs.Meaning.Wanted.{number, options}
 use Rattle.game_store.specs.Forms.{IsMeaning, IsWithinBounds, HaveForms}
-use Rattle.short_games.specs.Parts.{IsOption, IsFollower, IsPart, IsNumberOf, IsReached}
+use Rattle.short_games.specs.Parts.{IsOption, IsFollower, IsPart, HasMoreParts, IsNumberOf, IsReached}
 use Rattle.short_games.specs.Parts.IsFollower.{itself, further}
 use Rattle.short_games.proofs.OrderLaws.{le-trans, le-refl}
 use Rattle.short_games.proofs.SumLaws.{plus-nought}
@@ -27,6 +27,7 @@ use Rattle.game_canon.specs.Outcomes.{IsCanonicalId}
 use Rattle.game_canon.specs.Changes.{HasNumberPastBounds, IsSumRefusal}
 use Rattle.game_canon.specs.inner.Changes.{target, lefts, rights, shifted, IsRefused}
 use Rattle.game_canon.proofs.GameLaws.{has-left, has-right}
+use Rattle.game_canon.proofs.PartLaws.{fewer, option-listed}
 use Rattle.game_canon.proofs.ReachableLaws.{hot-before}
 use Rattle.game_canon.proofs.ChangeLaws.{AreImages, back, changed-form, lefts-canonical, rights-canonical, number-to, number-from, number-shifted, target-back, target-same}
 
@@ -232,3 +233,26 @@ sum-option x G C X g other k o = option-in (Add x) G C g other k X o
 -- a game is a number where its sum with one is
 pub sum-number : (x : ℤ) (G C : Tree) → IsCanonicalTree G → IsCanonicalFor (G +ᵍ number_tree x) C → IsNumberTree C → IsNumberTree G
 sum-number x G C g k n = number-from (Add x) G C g k n
+
+-- Not more parts than forms.
+
+-- a form that isn't stored has no more parts than the store has forms, and itself
+pub few-stored : (Ts : List Tree) (ls rs : List ℕ) (limit : ℕ) → HaveForms Ts → AreIds Ts ls → AreIds Ts rs → length Ts < limit → HasMoreParts (form Ts ls rs) limit → ⊥
+few-stored Ts ls rs limit f l r few m = omega (
+  arith,
+  few,
+  m.2,
+  fewer (length m.0) (suc (length Ts)) (λ j i. tree_at m.0 j ≡ tree_at (form Ts ls rs ∷ Ts) i)
+      (λ j k. (let p = m.1.each j k in place (form Ts ls rs) (tree_at m.0 j) refl p.0 p.1))
+      (λ i j k p q a b. m.1.different i j p q (a ∙ sym b)),
+)
+  where
+    stored : (H : Tree) → IsOption (listed Ts ls rs) H → (i : ℕ) × (i < length Ts) × (H ≡ tree_at Ts i)
+    stored H (inl h) = let p = has-pick Ts ls H h in (get_or ls p.0 0, l p.0 p.1, p.2)
+    stored H (inr h) = let p = has-pick Ts rs H h in (get_or rs p.0 0, r p.0 p.1, p.2)
+
+    place : (G X : Tree) → G ≡ form Ts ls rs → IsFollower G X → (IsNumberTree X → ⊥) → (i : ℕ) × (i < suc (length Ts)) × (X ≡ tree_at (form Ts ls rs ∷ Ts) i)
+    place _ _ e (itself G) n = (0, omega arith, e)
+    place _ _ e (further G H X o p) n =
+        let s = follower-stored Ts f H X p n (stored H (option-listed Ts ls rs H (subst (λ t. IsOption t H) e o))) in
+        (suc s.0, omega (arith, s.1), s.2)

@@ -106,7 +106,8 @@ fn count_parts(
     count_found(store, &mut found.ids, left, right, limit)
 }
 
-/// Whether the form with these options, which is no number, has more than `limit` parts.
+/// Whether the form with these options, which is no number, has more than `limit` parts. They are counted only where the store
+/// has so many forms: each other part is one of them.
 pub(crate) fn has_more_parts(
     alloc: Global,
     store: &Store,
@@ -122,6 +123,9 @@ pub(crate) fn has_more_parts(
     ensures few { IfOk result (λ more. more ≡ false
         → HasMoreParts (form store.now left.now right.now) limit → ⊥) }
 {
+    if store.len() < u64::from(limit) {
+        return Ok(false);
+    }
     match count_parts(alloc, store, left, right, limit as usize)? {
         Some(count) => Ok(count >= limit as usize),
         None => Ok(true),
