@@ -3,6 +3,8 @@ pub mod TreeLaws
 pub mod PositionLemmas
 pub mod BudgetTreeLaws
 pub mod ExchangeLaws
+pub mod KnownLemmas
+pub mod OptionNumberLemmas
 pub mod OptionsLaws
 pub mod PassLaws
 pub mod LayerLaws

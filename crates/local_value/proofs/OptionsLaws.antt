@@ -1,13 +1,11 @@
 -- What is remembered, the ids after the edges of a place as the store grows, and the form of those ids.
-use Rattle.std.proofs.Common.{ℕ, ◌+◌, ◌^◌, ◌≡◌, ◌<◌, ◌↔◌, arith, inl, inr, sym, ap, ap₂, true, Bool, get_or, subst, ◌∙◌, List, [], length, cond, Option, Some, Result, Ok, Err, OnOk, OnErr, nat_eq, ℤ, ◌+ℤ◌, ◌≤◌, to_z, of_z, w32, ◌*◌, refl, pos, neg_ℤ, ◌*ℤ◌, ◌∷◌, ◌++◌, take, Contains, bytes_eq, int_eq, unsigned_abs, IfOk, IfErr}
+use Rattle.std.proofs.Common.{ℕ, ◌+◌, ◌^◌, ◌≡◌, ◌<◌, ◌↔◌, arith, inl, inr, sym, ap, ap₂, get_or, subst, ◌∙◌, List, [], length, Result, ℤ, ◌+ℤ◌, ◌≤◌, to_z, of_z, w32, ◌*◌, refl, pos, neg_ℤ, ◌*ℤ◌, ◌∷◌, ◌++◌, take, Contains, unsigned_abs, IfOk, IfErr}
 use Rattle.std.specs.Map.{lookup}
-use Rattle.std.proofs.lemmas.Option.{same_Some}
 use Rattle.game_store.proofs.EntryLaws.{pick-same, has-pick, pick-has, push_one}
-use Rattle.std.proofs.lemmas.Bool.{cases_Bool, and_parts, eqb-true}
-use Rattle.std.proofs.lemmas.Bool.Decides.{Decides-int_eq}
-use Rattle.std.proofs.lemmas.Slice.Eq.{bytes_eq-Decides}
 use Rattle.std.proofs.lemmas.Int.{to_z-of_z, fits_signed_from_abs, ints}
-use Rattle.indexmap.specs.IndexMap.{get, IndexMap, IsUnchanged, Updates}
+use Rattle.game_canon.specs.Comparisons.{same_pair}
+use Rattle.game_canon.proofs.CanonicalFormLaws.{right-grown}
+use Rattle.local_value.proofs.OptionNumberLemmas.{same_ids}
 use Rattle.short_games.specs.Tree.{Tree, node, tree_at, none, Has}
 use Rattle.short_games.specs.Sum.{◌+ᵍ◌}
 use Rattle.short_games.specs.TextOrder.{IsCanonicalFor}
@@ -15,8 +13,10 @@ use Rattle.game_store.specs.Meaning.{pick, listed, AreIds, Extends, AreCanonical
 use Rattle.short_games.specs.Number.{number_tree, IsNumber}
 use Rattle.short_games.specs.Parts.{HasMoreParts, IsNumberOf, IsOption}
 use Rattle.game_canon.specs.Outcomes.{IsCanonicalId, AreWithin, AreOptionsWithin, IsCause}
-use Rattle.local_value.specs.declared.memo.Options.{Options}
-use Rattle.local_value.specs.inner.Memo.{stones_units, same_sum, recalled_sum, IsStonesSum, AreStonesSumsRight, same_options, recalled_form, IsFormOfOptions, AreFormsRight}
+use Rattle.local_value.specs.declared.memo.Forms.{Forms}
+use Rattle.local_value.specs.inner.Options.{options_of, IsAdded}
+use Rattle.local_value.specs.inner.Tables.{Learns}
+use Rattle.local_value.specs.inner.Memo.{stones_units, IsStonesSum, AreStonesSumsRight, IsFormOfOptions, IsFormOf, AreKnownRight, AreFormsRight}
 use Rattle.go_grid.specs.declared.grid.Colour.{Colour}
 use Rattle.go_grid.specs.declared.grid.Colour.TheVariants.{Black, White}
 use Rattle.local_graph.specs.declared.graph.Edge.{Edge}
@@ -27,7 +27,7 @@ use Rattle.game_canon.specs.Changes.{IsSumRefusal}
 use Rattle.sum_outcome.specs.Players.{credit, gain, options}
 use Rattle.game_canon.proofs.ChangedIdLaws.{extends-on}
 use Rattle.game_canon.proofs.NumberPartLaws.{sum-fits, same-sum}
-use Rattle.local_value.specs.inner.Valuing.{noted, IsWithinAfter, IsAfter, most_units, IsNoted, tree_after, AreWithinAfter, AreAfter, AreBothAfter, IsAdded, HasEdges}
+use Rattle.local_value.specs.inner.Valuing.{noted, IsWithinAfter, IsAfter, most_units, IsNoted, tree_after, AreWithinAfter, AreAfter, AreBothAfter, HasEdges}
 use Rattle.std.proofs.lemmas.List.{get_or_default, length-append, get_or_append_left, get_or_push, take_all, take_more}
 use Rattle.std.proofs.lemmas.List.Elements.{Contains-append_left, Contains-get_or, Contains-push, Contains-push_cases}
 use Rattle.local_graph.specs.inner.Graph.{no_edge}
@@ -47,7 +47,7 @@ module _ {Ts Us : List Tree} (x : Extends Ts Us) where
   pub listed-grown : (ls rs : List ℕ) → AreIds Ts ls → AreIds Ts rs → listed Us ls rs ≡ listed Ts ls rs
   listed-grown ls rs l r = ap₂ node (pick-grown ls l) (pick-grown rs r)
 
-  ids-grown : (is : List ℕ) → AreIds Ts is → AreIds Us is
+  pub ids-grown : (is : List ℕ) → AreIds Ts is → AreIds Us is
   ids-grown is are j l = omega (arith, are j l, x.longer)
 
   canonical-grown : (G : Tree) (id : ℕ) → IsCanonicalId Ts G id → IsCanonicalId Us G id
@@ -62,9 +62,9 @@ module _ {Ts Us : List Tree} (x : Extends Ts Us) where
     numbers = subst (λ t. (y : ℤ) → IsNumberOf t y ↔ IsNumberOf (tree_at Us id) (y +ℤ stones_units stones)) (sym (x.same game l)) numbers;
   }
 
-  pub sums-grown : (known : ℕ → ℤ → Option ℕ) → AreStonesSumsRight Ts known → AreStonesSumsRight Us known
-  sums-grown known right game stones id e =
-      let s = right game stones id e in
+  pub sums-grown : (sums : List ((ℕ × ℤ) × ℕ)) → AreStonesSumsRight Ts sums → AreStonesSumsRight Us sums
+  sums-grown sums right game stones id h =
+      let s = right game stones id h in
       sum-made game stones id s.game_id (canonical-grown _ id s.value)
       (subst (λ t. (y : ℤ) → IsNumberOf (tree_at Ts game) y ↔ IsNumberOf t (y +ℤ stones_units stones)) (sym (x.same id s.value.0)) s.numbers)
 
@@ -80,46 +80,34 @@ module _ {Ts Us : List Tree} (x : Extends Ts Us) where
         sizes = λ b w. sizes b (subst (AreOptionsWithin b) (sym form) w);
       }
 
-  pub forms-grown : (limit : ℕ) (known : Options → Option ℕ) → AreFormsRight Ts limit known → AreFormsRight Us limit known
-  forms-grown limit known right options id e =
-      let f = right options id e in
+  pub known-grown : (limit : ℕ) (known : List (List ℕ × ℕ)) → AreKnownRight Ts limit known → AreKnownRight Us limit known
+  known-grown limit known right os id h =
+      let f = right os id h in
       let same = sym (x.same id f.value.0) in
-      form-made limit options.left.items options.right.items id f.left_ids f.right_ids (canonical-grown _ id f.value)
+      form-made limit (options_of Black os) (options_of White os) id f.left_ids f.right_ids (canonical-grown _ id f.value)
       (subst (λ t. HasMoreParts t limit → ⊥) same f.few) (λ b w. subst (AreWithin (b + 2 ^ 60)) same (f.sizes b w))
 
--- what is right of all that is remembered: one more is remembered, or nothing changes
-kept : {K S E : Type 0} (same : K → K → Bool) (before now : IndexMap K ℕ S) (key : K) (id : ℕ) (r : Result (Option ℕ) E)
-    → OnOk r (Updates same before now key (Some id)) → OnErr r (IsUnchanged before now)
-    → (Right : K → ℕ → Type 0) → ((k : K) → same key k ≡ true → Right k id) → ((k : K) (n : ℕ) → get same before k ≡ Some n → Right k n)
-    → (k : K) (n : ℕ) → get same now k ≡ Some n → Right k n
-kept same before now key id (Err x) ok err Right new old k n e = old k n (sym (ap (λ es. lookup (same k) es) err) ∙ e)
-kept same before now key id (Ok x) ok err Right new old k n e = elim (cases_Bool (same key k)) [
-  | inl t ↦ (
-      let is : Some id ≡ Some n = sym (ap (λ z. cond z (Some id) (get same before k)) t) ∙ sym (ok.0 k) ∙ e in
-      subst (Right k) (same_Some id n is) (new k t)
-      )
-  | inr f ↦ old k n (sym (ap (λ z. cond z (Some id) (get same before k)) f) ∙ sym (ok.0 k) ∙ e)
+  pub forms-grown : (limit : ℕ) (forms : Forms) → AreFormsRight Ts limit forms → AreFormsRight Us limit forms
+  forms-grown limit forms right = record {
+    known = known-grown limit forms.table right.known;
+    comparisons = right-grown Ts Us (λ a b. lookup (same_pair (a, b)) forms.comparisons) x right.comparisons;
+  }
+
+-- one sum more is remembered
+pub sum-learned : (before now : List ((ℕ × ℤ) × ℕ)) (game : ℕ) (stones : ℤ) (sum : ℕ) → Learns before ((game, stones), sum) now
+    → (Ts : List Tree) → IsStonesSum Ts game stones sum → AreStonesSumsRight Ts before → AreStonesSumsRight Ts now
+sum-learned before now game stones sum learns Ts s right g n id h = elim (learns ((g, n), id) h) [
+  | inl old ↦ right g n id old
+  | inr e ↦ subst (λ (k : (ℕ × ℤ) × ℕ). IsStonesSum Ts k.0.0 k.0.1 k.1) e s
 ]
 
-pub sum-kept : {S E : Type 0} (before now : IndexMap (ℕ × ℤ) ℕ S) (game : ℕ) (stones : ℤ) (sum : ℕ) (r : Result (Option ℕ) E)
-    → OnOk r (Updates same_sum before now (game, stones) (Some sum)) → OnErr r (IsUnchanged before now)
-    → (Ts : List Tree) → IsStonesSum Ts game stones sum → AreStonesSumsRight Ts (recalled_sum before) → AreStonesSumsRight Ts (recalled_sum now)
-sum-kept before now game stones sum r ok err Ts s right g n id e =
-    kept same_sum before now (game, stones) sum r ok err (λ k i. IsStonesSum Ts k.0 k.1 i)
-    (λ k t. let p = and_parts (nat_eq game k.0) (int_eq stones k.1) t in
-    subst (λ z. IsStonesSum Ts k.0 z sum) ((Decides-int_eq stones k.1).0 p.1) (subst (λ z. IsStonesSum Ts z stones sum) (eqb-true game k.0 p.0) s))
-    (λ k i h. right k.0 k.1 i h) (g, n) id e
-
-pub form-kept : {S E : Type 0} (before now : IndexMap Options ℕ S) (key options : Options) (form : ℕ) (r : Result (Option ℕ) E)
-    → OnOk r (Updates same_options before now key (Some form)) → OnErr r (IsUnchanged before now) → key.left.items ≡ options.left.items → key.right.items ≡ options.right.items
-    → (Ts : List Tree) (limit : ℕ) → IsFormOfOptions Ts limit options.left.items options.right.items form → AreFormsRight Ts limit (recalled_form before) → AreFormsRight Ts limit (recalled_form now)
-form-kept before now key options form r ok err left right Ts limit f known =
-    kept same_options before now key form r ok err (λ o i. IsFormOfOptions Ts limit o.left.items o.right.items i)
-    (λ o t. let p = and_parts (bytes_eq key.left.items o.left.items) (bytes_eq key.right.items o.right.items) t in
-    let ls = sym left ∙ (bytes_eq-Decides key.left.items o.left.items).0 p.0 in
-    let rs = sym right ∙ (bytes_eq-Decides key.right.items o.right.items).0 p.1 in
-    subst (λ z. IsFormOfOptions Ts limit o.left.items z form) rs (subst (λ z. IsFormOfOptions Ts limit z options.right.items form) ls f))
-    known
+-- one form more is remembered
+pub form-learned : (before now : List (List ℕ × ℕ)) (os : List ℕ) (form : ℕ) → Learns before (os, form) now
+    → (Ts : List Tree) (limit : ℕ) → IsFormOf Ts limit os form → AreKnownRight Ts limit before → AreKnownRight Ts limit now
+form-learned before now os form learns Ts limit f right os' id h = elim (learns (os', id) h) [
+  | inl old ↦ right os' id old
+  | inr e ↦ subst (λ (k : List ℕ × ℕ). IsFormOf Ts limit k.0 k.1) e f
+]
 
 -- few stones are passed as they are
 pub held : (stones : ℤ) → unsigned_abs stones ≤ 255 → to_z w32 (of_z w32 stones) ≡ stones
@@ -263,14 +251,18 @@ module _ {Ts Us : List Tree} {ids : List ℕ} {c : Colour} {es : List Edge} {n :
         }
 
 -- the loop goes on for both players
-pub listing-add : {Ts Us Vs : List Tree} {ids : List ℕ} {es : List Edge} {n : ℕ} (before now : Options) (id : ℕ) (c : Colour) → n < length es
-    → IsListing Ts Us ids Black es n before.left.items → IsListing Ts Us ids White es n before.right.items
+pub listing-add : {Ts Us Vs : List Tree} {ids : List ℕ} {es : List Edge} {n : ℕ} (before now : List ℕ) (id : ℕ) (c : Colour) → n < length es
+    → IsListing Ts Us ids Black es n (options_of Black before) → IsListing Ts Us ids White es n (options_of White before)
     → c ≡ (get_or es n no_edge).colour → Extends Us Vs → ((d : Edge) → Contains es d → IsNoted Ts ids d.next) → IsAfter Us Vs ids (get_or es n no_edge) id → IsAdded c id before now
-    → IsListing Ts Vs ids Black es (n + 1) now.left.items × IsListing Ts Vs ids White es (n + 1) now.right.items
-listing-add before now id Black among l r same x noted a (added, other) =
-    rw (added, other) (listing-push l among noted id (sym same) x a, listing-skip r among x (λ w. let e : Black ≡ White = same ∙ w in cc))
-listing-add before now id White among l r same x noted a (other, added) =
-    rw (added, other) (listing-skip l among x (λ b. let e : White ≡ Black = same ∙ b in cc), listing-push r among noted id (sym same) x a)
+    → IsListing Ts Vs ids Black es (n + 1) (options_of Black now) × IsListing Ts Vs ids White es (n + 1) (options_of White now)
+listing-add {Ts} {Us} {Vs} {ids} {es} {n} before now id Black among l r same x noted a (added, other) = (
+  subst (IsListing Ts Vs ids Black es (n + 1)) (sym added) (listing-push l among noted id (sym same) x a),
+  subst (IsListing Ts Vs ids White es (n + 1)) (sym other) (listing-skip r among x (λ w. let e : Black ≡ White = same ∙ w in cc)),
+)
+listing-add {Ts} {Us} {Vs} {ids} {es} {n} before now id White among l r same x noted a (other, added) = (
+  subst (IsListing Ts Vs ids Black es (n + 1)) (sym other) (listing-skip l among x (λ b. let e : White ≡ Black = same ∙ b in cc)),
+  subst (IsListing Ts Vs ids White es (n + 1)) (sym added) (listing-push r among noted id (sym same) x a),
+)
 
 pub listing-done : {Ts Us : List Tree} {ids : List ℕ} {es : List Edge} {n : ℕ} {ls rs : List ℕ} → length es ≤ n
     → IsListing Ts Us ids Black es n ls → IsListing Ts Us ids White es n rs → AreBothAfter Ts Us ids es ls rs
@@ -279,25 +271,7 @@ listing-done {Ts} {Us} {ids} {es} {n} {ls} {rs} le l r = record {
   right = subst (λ z. AreAfter Ts Us ids White z rs) (take_all n es le) r.so_far;
 }
 
--- what is said of the ids after a player's edges is said of the same ids in another order
-after-same : {Ts Us : List Tree} {ids : List ℕ} {c : Colour} {es : List Edge} (afters others : List ℕ) → ((i : ℕ) → Contains others i ↔ Contains afters i)
-    → AreAfter Ts Us ids c es afters → AreAfter Ts Us ids c es others
-after-same {Ts} {Us} {ids} afters others same w = record {
-  from = λ j lt.
-      let at = (same (get_or others j 0)).0 (Contains-get_or others j 0 lt) in
-      let e = w.from at.0 at.1 in
-      (e.0, e.1, e.2, subst (IsAfter Ts Us ids e.0) (get_or_default afters at.0 0 (get_or others j 0) at.1 ∙ at.2) e.3);
-  to = λ e among colour.
-      let j = w.to e among colour in
-      let at = (same (get_or afters j.0 0)).1 (Contains-get_or afters j.0 0 j.1) in
-      (at.0, at.1, subst (IsAfter Ts Us ids e) (sym (get_or_default others at.0 0 (get_or afters j.0 0) at.1 ∙ at.2)) j.2);
-}
-
-pub both-same : {Ts Us : List Tree} {ids : List ℕ} {es : List Edge} (ls rs ls' rs' : List ℕ) → ((i : ℕ) → Contains ls' i ↔ Contains ls i)
-    → ((i : ℕ) → Contains rs' i ↔ Contains rs i) → AreBothAfter Ts Us ids es ls rs → AreBothAfter Ts Us ids es ls' rs'
-both-same ls rs ls' rs' left right w = record { left = after-same ls ls' left w.left; right = after-same rs rs' right w.right }
-
--- The form of the ids after the edges of a place, and what it shares with each tree of the same edges.
+-- Equal trees.
 
 pub canonical-as : (G H C : Tree) → G ≡ᵍ H → IsCanonicalFor G C → IsCanonicalFor H C
 canonical-as G H C s k = record { canonical = k.canonical; under = le-trans H G C s.1 k.under; over = le-trans C G H k.over s.0 }
@@ -306,10 +280,70 @@ canonical-as G H C s k = record { canonical = k.canonical; under = le-trans H G 
 pub number-as : (G H : Tree) → G ≡ᵍ H → IsNumber G → IsNumber H
 number-as G H s n = (n.0, n.1, le-trans H G _ s.1 n.2, le-trans _ G H n.3 s.0)
 
-cause-as : (G H : Tree) (limit : ℕ) (e : FormError) → G ≡ᵍ H → IsCause G limit e → IsCause H limit e
+pub cause-as : (G H : Tree) (limit : ℕ) (e : FormError) → G ≡ᵍ H → IsCause G limit e → IsCause H limit e
 cause-as G H limit Parts s w = (λ n. w.0 (number-as H G (s.1, s.0) n), λ C k. w.1 C (canonical-as H G C (s.1, s.0) k))
 cause-as G H limit Bounds s w = (number-as G H s w.0, λ x b y z. w.1 x b (le-trans G H _ s.0 y) (le-trans _ H G z s.1))
 cause-as G H limit (Memory cause) s w = tt
+
+-- Lists of options with the same members.
+
+-- the ids of the one are ids of the other
+AreAmong : List ℕ → List ℕ → Type 0
+AreAmong is js = (i : ℕ) → Contains is i → Contains js i
+
+ids-among : (Ts : List Tree) (is js : List ℕ) → AreAmong js is → AreIds Ts is → AreIds Ts js
+unfolding AreAmong
+ids-among Ts is js among are j lt =
+    let (k, inside, at) = among (get_or js j 0) (Contains-get_or js j 0 lt) in
+    subst (λ i. i < length Ts) (get_or_default is k 0 (get_or js j 0) inside ∙ at) (are k inside)
+
+pick-among : (Ts : List Tree) (is js : List ℕ) → AreAmong is js → (X : Tree) → Has (pick Ts is) X → Has (pick Ts js) X
+unfolding AreAmong
+pick-among Ts is js among X h =
+    let (j, lt, x) = has-pick Ts is X h in
+    let (k, inside, at) = among (get_or is j 0) (Contains-get_or is j 0 lt) in
+    subst (Has (pick Ts js)) (ap (tree_at Ts) (get_or_default js k 0 (get_or is j 0) inside ∙ at) ∙ sym x) (pick-has Ts js k inside)
+
+module _ (os others : List ℕ) (same : (n : ℕ) → Contains others n ↔ Contains os n) where
+  there : (c : Colour) → AreAmong (options_of c others) (options_of c os)
+  unfolding AreAmong
+  there c i = (same_ids c os others same i).0
+
+  back : (c : Colour) → AreAmong (options_of c os) (options_of c others)
+  unfolding AreAmong
+  back c i = (same_ids c os others same i).1
+
+  pub ids-same : (Ts : List Tree) (c : Colour) → AreIds Ts (options_of c os) → AreIds Ts (options_of c others)
+  ids-same Ts c = ids-among Ts (options_of c os) (options_of c others) (there c)
+
+  -- the games with these options are equal
+  pub listed-same : (Ts : List Tree) → listed Ts (options_of Black others) (options_of White others) ≡ᵍ listed Ts (options_of Black os) (options_of White os)
+  listed-same Ts = alike_options (listed Ts (options_of Black others) (options_of White others)) (listed Ts (options_of Black os) (options_of White os))
+      (λ c X h. (X, on c X h, same-path X X refl)) (λ c Y h. (Y, from c Y h, same-path Y Y refl))
+    where
+      on : (c : Colour) (X : Tree) → Has (options c (listed Ts (options_of Black others) (options_of White others))) X → Has (options c (listed Ts (options_of Black os) (options_of White os))) X
+      on Black X h = pick-among Ts (options_of Black others) (options_of Black os) (there Black) X h
+      on White X h = pick-among Ts (options_of White others) (options_of White os) (there White) X h
+
+      from : (c : Colour) (X : Tree) → Has (options c (listed Ts (options_of Black os) (options_of White os))) X → Has (options c (listed Ts (options_of Black others) (options_of White others))) X
+      from Black X h = pick-among Ts (options_of Black os) (options_of Black others) (back Black) X h
+      from White X h = pick-among Ts (options_of White os) (options_of White others) (back White) X h
+
+  -- a form of the one list is that of the other
+  pub form-same : (Ts : List Tree) (limit id : ℕ) → AreIds Ts (options_of Black os) → AreIds Ts (options_of White os) → IsFormOf Ts limit others id → IsFormOf Ts limit os id
+  form-same Ts limit id left right f = record {
+    left_ids = left;
+    right_ids = right;
+    value = (f.value.0, canonical-as _ _ (tree_at Ts id) (listed-same Ts) f.value.1);
+    few = f.few;
+    sizes = λ b w. f.sizes b (λ L o. w L (on L o));
+  }
+    where
+      on : (L : Tree) → IsOption (listed Ts (options_of Black others) (options_of White others)) L → IsOption (listed Ts (options_of Black os) (options_of White os)) L
+      on L (inl h) = inl (pick-among Ts (options_of Black others) (options_of Black os) (there Black) L h)
+      on L (inr h) = inr (pick-among Ts (options_of White others) (options_of White os) (there White) L h)
+
+-- The form of the ids after the edges of a place, and what it shares with each tree of the same edges.
 
 module _ {Ts Us : List Tree} {ids ls rs : List ℕ} {es : List Edge} (a : AreBothAfter Ts Us ids es ls rs) where
   abbrev side : Colour → List ℕ
@@ -371,15 +405,15 @@ module _ {Ts Us : List Tree} {ids ls rs : List ℕ} {es : List Edge} (a : AreBot
 
   -- the form that is made of the ids is that of each tree of the edges
   module _ {Vs : List Tree} (x : Extends Us Vs) (limit : ℕ) (r : Result ℕ FormError) where
-    form-same : listed Vs ls rs ≡ listed Us ls rs
-    form-same = listed-grown x ls rs left-ids right-ids
+    form-listed : listed Vs ls rs ≡ listed Us ls rs
+    form-listed = listed-grown x ls rs left-ids right-ids
 
     pub form-values : IfOk r (IsFormOfOptions Vs limit ls rs) → IfOk r (λ id. (G : Tree) → HasEdges Ts ids es G → IsCanonicalId Vs G id)
     form-values = IfOk-weaker r _ _ (λ id f G has.
-        (f.value.0, canonical-as (listed Us ls rs) G _ (edges-same G has) (subst (λ t. IsCanonicalFor t (tree_at Vs id)) form-same f.value.1)))
+        (f.value.0, canonical-as (listed Us ls rs) G _ (edges-same G has) (subst (λ t. IsCanonicalFor t (tree_at Vs id)) form-listed f.value.1)))
 
     pub form-sizes : IfOk r (IsFormOfOptions Vs limit ls rs) → IfOk r (λ id. (b : ℕ) → AreWithinAfter b Ts ids es → AreWithin (b + 2 ^ 60) (tree_at Vs id))
-    form-sizes = IfOk-weaker r _ _ (λ id f b w. f.sizes b (subst (AreOptionsWithin b) (sym form-same) (options-within b w)))
+    form-sizes = IfOk-weaker r _ _ (λ id f b w. f.sizes b (subst (AreOptionsWithin b) (sym form-listed) (options-within b w)))
 
     pub form-refused : IfErr r (λ e. IsCause (listed Us ls rs) limit e) → IfErr r (λ e. (G : Tree) → HasEdges Ts ids es G → IsCause G limit e)
     form-refused = IfErr-weaker r _ _ (λ e k G has. cause-as (listed Us ls rs) G limit e (edges-same G has) k)

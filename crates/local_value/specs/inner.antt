@@ -1,5 +1,8 @@
 -- What loops and private calls keep; no public clause cites it.
 pub mod GraphMoves
+pub mod Options
+pub mod Chains
+pub mod Tables
 pub mod Memo
 pub mod Valuing
 pub mod Layers

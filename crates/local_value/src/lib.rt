@@ -2,9 +2,13 @@
 #![tactic(auto)]
 
 mod budgets;
+mod chains;
+mod form_table;
 mod laws;
 mod memo;
+mod options;
 mod steady_values;
+mod sum_table;
 mod values;
 
 pub use budgets::{BudgetError, value_steady};

@@ -2,18 +2,22 @@
 
 ghost use Rattle.std.specs.Prelude.{ℕ, ◌≡◌, ◌↔◌, ◌<◌, ◌≤◌, ◌+◌, ◌-◌, ◌*◌, ◌^◌, unsigned_abs, List, length, slice_index, IfOk, IfErr, OnOk, Contains, true};
 ghost use Rattle.go_grid.specs.Region.{Region};
+ghost use Rattle.go_grid.specs.declared.grid.Colour.TheVariants.{Black, White};
 ghost use Rattle.short_games.specs.Tree.{Tree, tree_at};
 ghost use Rattle.game_store.specs.Meaning.{Extends};
 ghost use Rattle.short_games.specs.Parts.{HasMoreParts};
 ghost use Rattle.game_canon.specs.Changes.{HasNumberPastBounds};
 ghost use Rattle.game_canon.specs.Outcomes.{IsCanonicalId, IsCause, AreWithin};
 ghost use Rattle.sum_outcome.specs.Players.{credit};
-ghost use Rattle.local_value.specs.inner.Memo.{recalled_sum, AreStonesSumsRight, IsMemoRight};
+ghost use Rattle.local_value.specs.inner.Options.{options_of};
+ghost use Rattle.local_value.specs.inner.Memo.{AreStonesSumsRight, IsMemoRight};
 ghost use Rattle.local_value.specs.Refusals.{IsValueRefusal};
 ghost use Rattle.local_value.specs.Values.{IsGraphOf, AreValues};
-ghost use Rattle.local_value.specs.inner.Valuing.{IsNoted, IsWithinAfter, AreWithinAfter, IsAfter, AreBothAfter, IsAdded, HasEdges, most_units};
+ghost use Rattle.local_value.specs.inner.Valuing.{IsNoted, IsWithinAfter, AreWithinAfter, IsAfter, AreBothAfter, HasEdges, most_units};
 
-use crate::memo::{Memo, Options, Sums, form_of, with_stones};
+use crate::memo::{Memo, form_of, with_stones};
+use crate::options::{add_option, folded, mixed};
+use crate::sum_table::SumTable;
 use dyadic_num::EXPONENT;
 use game_canon::FormError;
 use game_store::{GameId, Store};
@@ -42,15 +46,15 @@ fn credit(player: Colour, stones: u8) -> i32
 fn value_after(
     alloc: Global,
     store: &mut Store,
-    sums: &mut Sums,
+    sums: &mut SumTable,
     ids: &[GameId],
     edge: &Edge,
 ) -> Result<GameId, AllocError>
     requires noted { IsNoted store.old ids.now edge.now.next }
     requires small { IsWithinAfter most_units store.old ids.now edge.now }
-    requires sums { AreStonesSumsRight store.old (recalled_sum sums.old) }
+    requires sums { AreStonesSumsRight store.old sums.old }
     ensures value { IfOk result (λ id. IsAfter store.old store.new ids.now edge.now id) }
-    ensures sums { OnOk result (AreStonesSumsRight store.new (recalled_sum sums.new)) }
+    ensures sums { OnOk result (AreStonesSumsRight store.new sums.new) }
     ensures kept { Extends store.old store.new }
 {
     let _count = store.len();
@@ -68,51 +72,33 @@ fn value_after(
     }
 }
 
-/// Puts one more option of a player behind the others.
-fn add_option(options: &mut Options, player: Colour, id: GameId) -> Result<(), AllocError>
-    ensures { OnOk result (IsAdded player id options.old options.new) }
-{
-    match player {
-        Colour::Black => options.left.push(id)?,
-        Colour::White => options.right.push(id)?,
-    }
-    Ok(())
-}
-
-/// Puts ids in ascending order.
-fn put_in_order(ids: &mut Vec<GameId>)
-    ensures { (i : ℕ) → Contains ids.new.items i ↔ Contains ids.old.items i }
-{
-    ids.sort_unstable();
-}
-
-/// Puts the values after the edges into `options`, by player in ascending order: so fewer different options come up.
+/// Puts the values after the edges into `options`, as they come. The answer is the hash of the list.
+#[inline(always)]
 fn list_options(
     alloc: Global,
     store: &mut Store,
-    sums: &mut Sums,
+    sums: &mut SumTable,
     ids: &[GameId],
     edges: &[Edge],
-    options: &mut Options,
-) -> Result<(), AllocError>
+    options: &mut Vec<u32>,
+) -> Result<u32, AllocError>
     requires noted { (e : Edge) → Contains edges.now e → IsNoted store.old ids.now e.next }
     requires small { AreWithinAfter most_units store.old ids.now edges.now }
-    requires sums { AreStonesSumsRight store.old (recalled_sum sums.old) }
+    requires sums { AreStonesSumsRight store.old sums.old }
     ensures options { OnOk result
-        (AreBothAfter store.old store.new ids.now edges.now options.new.left.items
-        options.new.right.items) }
-    ensures sums { OnOk result (AreStonesSumsRight store.new (recalled_sum sums.new)) }
+        (AreBothAfter store.old store.new ids.now edges.now (options_of Black options.new.items)
+        (options_of White options.new.items)) }
+    ensures sums { OnOk result (AreStonesSumsRight store.new sums.new) }
     ensures kept { Extends store.old store.new }
 {
-    options.left.clear();
-    options.right.clear();
+    options.clear();
+    let mut hash = 0;
     for edge in edges {
         let after = value_after(alloc, store, sums, ids, edge)?;
-        add_option(options, edge.colour, after)?;
+        let option = add_option(options, edge.colour, after)?;
+        hash = mixed(hash, option);
     }
-    put_in_order(&mut options.left);
-    put_in_order(&mut options.right);
-    Ok(())
+    Ok(folded(hash))
 }
 
 /// The value of a position with these edges.
@@ -137,8 +123,15 @@ pub(crate) fn value_of(
     ensures memo { OnOk result (IsMemoRight store.new parts_limit memo.new) }
     ensures kept { Extends store.old store.new }
 {
-    list_options(alloc, store, &mut memo.sums, ids, edges, &mut memo.options)?;
-    form_of(alloc, store, &mut memo.forms, &memo.options, parts_limit)
+    let hash = list_options(alloc, store, &mut memo.sums, ids, edges, &mut memo.options)?;
+    form_of(
+        alloc,
+        store,
+        &mut memo.forms,
+        &memo.options,
+        hash,
+        parts_limit,
+    )
 }
 
 /// The values of all positions of a graph, as ids by place: the canonical forms of their trees, to each option of which the

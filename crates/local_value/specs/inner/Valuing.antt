@@ -1,10 +1,9 @@
 -- What a pass over a graph notes of its places, and what it makes of the edges of one.
-use Rattle.std.specs.Prelude.{ℕ, ◌+◌, ◌-◌, ◌*◌, ◌^◌, ◌≡◌, ◌<◌, ◌≤◌, List, [], ◌∷◌, ◌++◌, length, Contains, ℤ, unsigned_abs, slice_index}
+use Rattle.std.specs.Prelude.{ℕ, ◌+◌, ◌-◌, ◌*◌, ◌^◌, ◌≡◌, ◌<◌, ◌≤◌, List, length, Contains, ℤ, unsigned_abs, slice_index}
 use Rattle.dyadic_num.specs.declared.TheConstants.{EXPONENT, LIMIT}
 use Rattle.go_grid.specs.declared.grid.Colour.{Colour}
 use Rattle.go_grid.specs.declared.grid.Colour.TheVariants.{Black, White}
 use Rattle.local_graph.specs.declared.graph.Edge.{Edge}
-use Rattle.local_value.specs.declared.memo.Options.{Options}
 use Rattle.short_games.specs.Tree.{Tree, Has, tree_at}
 use Rattle.short_games.specs.Order.{◌≡ᵍ◌}
 use Rattle.short_games.specs.Sum.{◌+ᵍ◌}
@@ -52,11 +51,6 @@ pub record AreAfter (Ts Us : List Tree) (ids : List ℕ) (c : Colour) (es : List
 pub record AreBothAfter (Ts Us : List Tree) (ids : List ℕ) (es : List Edge) (ls rs : List ℕ) : Type 0 where
   pub left : AreAfter Ts Us ids Black es ls
   pub right : AreAfter Ts Us ids White es rs
-
--- an id stands behind the options of a player, and the other's are as before
-abbrev pub IsAdded : Colour → ℕ → Options → Options → Type 0
-IsAdded Black id before now = (now.left.items ≡ before.left.items ++ id ∷ []) × (now.right.items ≡ before.right.items)
-IsAdded White id before now = (now.left.items ≡ before.left.items) × (now.right.items ≡ before.right.items ++ id ∷ [])
 
 -- the options of G are equal to the trees after the edges
 pub record HasEdges (Ts : List Tree) (ids : List ℕ) (es : List Edge) (G : Tree) : Type 0 where
