@@ -91,7 +91,7 @@ fn make_room(alloc: Global, latest: &mut Vec<u32>, links: &mut [Link]) -> Result
     if links.len() < latest.len() {
         return Ok(());
     }
-    *latest = vec![in alloc; 0; FEWEST_SLOTS.max(4 * latest.len())]?;
+    *latest = vec![in alloc; 0; FEWEST_SLOTS.max(2 * latest.len())]?;
     enter_all(latest, links);
     Ok(())
 }

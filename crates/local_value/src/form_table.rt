@@ -4,6 +4,7 @@ ghost use Rattle.std.specs.Prelude.{◌≡◌, ◌+◌, ◌^◌, ◌<◌, ◌≤
 ghost use Rattle.local_value.specs.inner.Tables.{Learns};
 
 use crate::chains::Chains;
+use crate::options::MOST_IDS;
 use game_store::GameId;
 use std::alloc::{AllocError, Global};
 use std::marker::Model;
@@ -18,7 +19,7 @@ const MOST_OPTIONS: usize = 1 << 24;
 pub(crate) struct KnownForm {
     pub(crate) start: u32,
     pub(crate) end: u32,
-    pub(crate) id: GameId,
+    pub(crate) id: u32,
 }
 
 /// Ids of forms under lists of options. Contracts see the list of both. What was remembered may be forgotten.
@@ -70,7 +71,7 @@ impl FormTable {
         }
         let form = self.forms[place];
         if &self.pool[form.start as usize..form.end as usize] == options {
-            return Some(form.id);
+            return Some(GameId::from(form.id));
         }
         None
     }
@@ -101,9 +102,10 @@ impl FormTable {
     ) -> Result<(), AllocError>
         ensures { Learns self.old (options.now, id) self.new }
     {
-        if !has_room(self.forms.len(), self.pool.len(), options.len()) {
+        if id >= MOST_IDS || !has_room(self.forms.len(), self.pool.len(), options.len()) {
             return Err(AllocError);
         }
+        let id = id as u32;
         let start = self.pool.len() as u32;
         self.pool.extend_from_slice(options)?;
         let end = self.pool.len() as u32;

@@ -52,8 +52,30 @@ impl Memo {
     }
 }
 
-/// The canonical form of the sum of a game and so many stones.
+/// The canonical form of the sum of a game and so many stones, where it isn't remembered. It is remembered then.
 #[inline(never)]
+fn new_sum(
+    alloc: Global,
+    store: &mut Store,
+    sums: &mut SumTable,
+    game: GameId,
+    stones: i32,
+) -> Result<GameId, FormError>
+    requires game { game < length store.old }
+    requires sums { AreStonesSumsRight store.old sums.old }
+    ensures sum { IfOk result (λ id. IsStonesSum store.new game stones id) }
+    ensures refusal { IfErr result (λ error. IsSumRefusal
+        (tree_at store.old game +ᵍ number_tree (stones_units stones)) error) }
+    ensures sums { OnOk result (AreStonesSumsRight store.new sums.new) }
+    ensures kept { Extends store.old store.new }
+{
+    let sum = add_number(alloc, store, game, Dyadic::whole(stones))?;
+    sums.remember(alloc, game, stones, sum);
+    Ok(sum)
+}
+
+/// The canonical form of the sum of a game and so many stones.
+#[inline(always)]
 pub(crate) fn with_stones(
     alloc: Global,
     store: &mut Store,
@@ -72,9 +94,7 @@ pub(crate) fn with_stones(
     if let Some(sum) = sums.find(game, stones) {
         return Ok(sum);
     }
-    let sum = add_number(alloc, store, game, Dyadic::whole(stones))?;
-    sums.remember(alloc, game, stones, sum);
-    Ok(sum)
+    new_sum(alloc, store, sums, game, stones)
 }
 
 /// The canonical form of the game with these options, as `canonical` makes it.

@@ -8,8 +8,8 @@ use game_store::GameId;
 use go_grid::Colour;
 use std::alloc::{AllocError, Global};
 
-/// Ids have numbers in a list up to this one.
-const MOST_IDS: GameId = 1 << 31;
+/// Ids below this one have numbers in a list.
+pub(crate) const MOST_IDS: GameId = 1 << 31;
 
 /// The number of an option: twice its id, and one more for White's. Want of memory where so many forms would have to be stored
 /// that it doesn't fit.
