@@ -4,6 +4,7 @@
 mod adapters;
 mod calls;
 mod file_shelf;
+mod limits;
 mod lines;
 mod memory;
 mod memory_shelf;
@@ -12,6 +13,7 @@ mod shelf;
 
 pub use adapters::{StdSink, StdSource};
 pub use file_shelf::FileShelf;
+pub use limits::limit_laws;
 pub use lines::{FoundLine, LineReader, MOST_LINES};
 pub use memory::{MemorySink, MemorySource};
 pub use memory_shelf::MemoryShelf;

@@ -6,6 +6,9 @@ ghost use Rattle.std.specs.Prelude.{◌≡◌, ◌+◌, ◌^◌, ◌<◌, ℕ, �
 ghost use Rattle.dyadic_num.specs.Units.{IsInBounds, IsInReach, IsFraction, IsLowest, IsBetween, IsInside, IsSimplest, IsSimplestBetween, IsOrdered};
 ghost use Rattle.dyadic_num.specs.inner.Units.{low_end, high_end, IsSmall};
 
+mod limits;
+
+pub use limits::limit_laws;
 use std::cmp::Ordering;
 use std::marker::Model;
 

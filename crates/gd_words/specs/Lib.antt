@@ -5,4 +5,5 @@ pub mod Job
 pub mod Bounds
 pub mod Viewed
 pub mod Laws
+pub mod Limits
 pub mod inner

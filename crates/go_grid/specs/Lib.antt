@@ -8,4 +8,5 @@ pub mod Name
 pub mod Parts
 pub mod Region
 pub mod Stones
+pub mod Limits
 pub mod inner

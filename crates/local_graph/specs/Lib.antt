@@ -5,4 +5,5 @@ pub mod Built
 pub mod Returns
 pub mod ReturnGraph
 pub mod BuiltWithReturns
+pub mod Limits
 pub mod inner

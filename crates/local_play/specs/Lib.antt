@@ -3,4 +3,5 @@ pub mod Packed
 pub mod Places
 pub mod Links
 pub mod Moves
+pub mod Limits
 pub mod inner

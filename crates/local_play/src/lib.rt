@@ -3,6 +3,7 @@
 #![tactic(auto)]
 
 mod expansions;
+mod limits;
 mod links;
 mod local;
 mod local_move;
@@ -11,6 +12,7 @@ mod sides;
 mod steps;
 
 pub use expansions::{expand, list_moves};
+pub use limits::limit_laws;
 pub use links::Links;
 pub use local::{Local, start};
 pub use local_move::LocalMove;

@@ -3,6 +3,7 @@
 
 mod fault;
 mod komi;
+mod limits;
 mod marks;
 mod properties;
 mod replay;
@@ -13,6 +14,7 @@ mod values;
 
 pub use fault::{FileFault, GoError, SetupFault};
 pub use komi::{MOST_KOMI, read_komi};
+pub use limits::limit_laws;
 pub use settings::{MOST_PRISONERS, Settings, Setup};
 pub use setup::{one_position, position, size_of_board};
 pub use values::trim;
