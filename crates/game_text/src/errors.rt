@@ -8,6 +8,7 @@ ghost use Rattle.game_text.specs.Refusals.{passed_on};
 
 use game_canon::FormError;
 use std::alloc::{AllocError, AllocFailed};
+use std::fmt;
 use thiserror::Error;
 
 /// Why a form has no text: the text has more bytes than allowed, its braces nest deeper than 1,000, or memory is wanting.
@@ -34,9 +35,9 @@ impl From<AllocError> for WriteError {
 /// many parts, or that is a number past the bounds of a `Dyadic`; or memory is wanting.
 #[derive(Clone, Copy, Debug, PartialEq, Eq, Error)]
 pub enum ReadError {
-    #[error("bad byte {0}")]
+    #[error(fmt = bad_byte)]
     BadByte(usize),
-    #[error("bad number at byte {0}")]
+    #[error(fmt = bad_number)]
     BadNumber(usize),
     #[error("cut short")]
     CutShort,
@@ -48,6 +49,16 @@ pub enum ReadError {
     Bounds,
     #[error("out of memory")]
     Memory(AllocError),
+}
+
+// Each message with a number is a function of its own, which is far cheaper to prove than one in all.
+
+fn bad_byte<W: fmt::Write>(place: &usize, f: &mut fmt::Formatter<W>) -> fmt::Result {
+    write!(f, "bad byte {place}")
+}
+
+fn bad_number<W: fmt::Write>(place: &usize, f: &mut fmt::Formatter<W>) -> fmt::Result {
+    write!(f, "bad number at byte {place}")
 }
 
 impl From<AllocError> for ReadError {

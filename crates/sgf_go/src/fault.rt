@@ -6,6 +6,7 @@ ghost use Rattle.sgf_go.specs.declared.fault.GoError.TheVariants.{Memory};
 use go_grid::Point;
 use sgf_tree::TreeFault;
 use std::alloc::AllocError;
+use std::fmt;
 use thiserror::Error;
 
 /// What is wrong with a record. The numbers are those of nodes of the main line, counted from 0.
@@ -22,23 +23,54 @@ pub enum SetupFault {
     BadKomi,
     /// A value of AB, AW, AE, TB or TW is neither a point of the board nor a rectangle on it, or the value of a move
     /// neither a point nor a pass.
-    #[error("bad point at node {0}")]
+    #[error(fmt = bad_point)]
     BadPoint(u32),
     /// PL names no colour.
     #[error("bad side")]
     BadSide,
     /// A move at a point that isn't empty.
-    #[error("occupied at node {0}")]
+    #[error(fmt = occupied)]
     Occupied(u32),
     /// A move that would leave its own chain without a liberty.
-    #[error("suicide at node {0}")]
+    #[error(fmt = suicide)]
     Suicide(u32),
     /// The lowest point that is marked for both colours.
-    #[error("marked twice at point {}", .0.0)]
+    #[error(fmt = marked_twice)]
     MarkedTwice(Point),
     /// At the end, the lowest stone whose chain has no liberty.
-    #[error("no liberty at point {}", .0.0)]
+    #[error(fmt = no_liberty)]
     NoLiberty(Point),
+}
+
+// Each message with a number is a function of its own, which is far cheaper to prove than one in all.
+
+fn at_node<W: fmt::Write>(what: &str, node: u32, f: &mut fmt::Formatter<W>) -> fmt::Result {
+    write!(f, "{what} at node {node}")
+}
+
+fn at_point<W: fmt::Write>(what: &str, point: Point, f: &mut fmt::Formatter<W>) -> fmt::Result {
+    let number = point.0;
+    write!(f, "{what} at point {number}")
+}
+
+fn bad_point<W: fmt::Write>(node: &u32, f: &mut fmt::Formatter<W>) -> fmt::Result {
+    at_node("bad point", *node, f)
+}
+
+fn occupied<W: fmt::Write>(node: &u32, f: &mut fmt::Formatter<W>) -> fmt::Result {
+    at_node("occupied", *node, f)
+}
+
+fn suicide<W: fmt::Write>(node: &u32, f: &mut fmt::Formatter<W>) -> fmt::Result {
+    at_node("suicide", *node, f)
+}
+
+fn marked_twice<W: fmt::Write>(point: &Point, f: &mut fmt::Formatter<W>) -> fmt::Result {
+    at_point("marked twice", *point, f)
+}
+
+fn no_liberty<W: fmt::Write>(point: &Point, f: &mut fmt::Formatter<W>) -> fmt::Result {
+    at_point("no liberty", *point, f)
 }
 
 /// What is wrong with a file: its tree, or the position of its main line.
