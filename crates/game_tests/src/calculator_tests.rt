@@ -1,10 +1,31 @@
 //! Worked lines.
 
 use game_calc::{CalcError, CalcFault, answer};
-use std::test::Fail;
+use std::alloc::{AllocError, Global};
 
-/// An expression and the value that is written of it.
-const VALUES: [(&[u8], &[u8]); 7] = [
+/// An expression and its answer.
+type Answered = (&'static [u8], &'static [u8]);
+
+/// Whether an expression has the answer.
+fn is_answer(alloc: Global, line: &[u8], want: &[u8]) -> bool {
+    match answer(alloc, line, 500) {
+        Ok(text) => text.as_slice() == want,
+        Err(_error) => false,
+    }
+}
+
+/// The first of the expressions with another answer.
+fn wrong_answer(alloc: Global, rows: &[Answered]) -> Option<usize> {
+    for (at, row) in rows.iter().enumerate() {
+        if !is_answer(alloc, row.0, row.1) {
+            return Some(at);
+        }
+    }
+    None
+}
+
+/// Expressions and the values that are written of them.
+static VALUES: [Answered; 7] = [
     (
         b"^ + *",
         b"value {*,0|0}\nstops 0 0\nmean 0\ntemperature 0\nleft 0:0\nright 0:0\n",
@@ -37,19 +58,12 @@ const VALUES: [(&[u8], &[u8]); 7] = [
 ];
 
 #[test]
-fn values(rt: HostRuntime) -> Result<(), Fail> {
-    let alloc = rt.alloc();
-    for (line, want) in &VALUES {
-        match answer(alloc, line, 500) {
-            Ok(text) => assert_eq!(rt; text.as_slice(), *want),
-            Err(_) => assert!(rt; false),
-        }
-    }
-    Ok(())
+fn values(rt: HostRuntime) {
+    assert_eq!(rt; wrong_answer(rt.alloc(), &VALUES), None);
 }
 
-/// An expression and its answer.
-const ORDERS: [(&[u8], &[u8]); 41] = [
+/// Expressions and the orders of their games.
+static ORDERS: [Answered; 41] = [
     (b"^ ? 0", b"order greater\n"),
     (b"v ? 0", b"order less\n"),
     (b"* ? 0", b"order confused\n"),
@@ -98,19 +112,12 @@ const ORDERS: [(&[u8], &[u8]); 41] = [
 
 /// Identities and orders of the field (Siegel, Combinatorial Game Theory), nim addition among them.
 #[test]
-fn orders(rt: HostRuntime) -> Result<(), Fail> {
-    let alloc = rt.alloc();
-    for (line, want) in &ORDERS {
-        match answer(alloc, line, 500) {
-            Ok(text) => assert_eq!(rt; text.as_slice(), *want),
-            Err(_) => assert!(rt; false),
-        }
-    }
-    Ok(())
+fn orders(rt: HostRuntime) {
+    assert_eq!(rt; wrong_answer(rt.alloc(), &ORDERS), None);
 }
 
 /// An expression, the most parts of a form, and why it is refused.
-const REFUSALS: [(&[u8], u32, CalcError); 24] = [
+static REFUSALS: [(&[u8], u32, CalcError); 24] = [
     (b"", 500, CalcError::Fault(CalcFault::CutShort)),
     (b"* +", 500, CalcError::Fault(CalcFault::CutShort)),
     (b"1 ? ", 500, CalcError::Fault(CalcFault::CutShort)),
@@ -142,40 +149,59 @@ const REFUSALS: [(&[u8], u32, CalcError); 24] = [
     ),
 ];
 
-#[test]
-fn refusals(rt: HostRuntime) -> Result<(), Fail> {
-    let alloc = rt.alloc();
-    for (line, parts_limit, want) in &REFUSALS {
-        match answer(alloc, line, *parts_limit) {
-            Ok(_) => assert!(rt; false),
-            Err(error) => assert!(rt; error == *want),
+/// Whether an expression is refused so.
+fn is_refused(alloc: Global, line: &[u8], parts: u32, want: CalcError) -> bool {
+    match answer(alloc, line, parts) {
+        Ok(_text) => false,
+        Err(error) => error == want,
+    }
+}
+
+/// The first of the expressions that isn't refused so.
+fn wrong_refusal(alloc: Global) -> Option<usize> {
+    for (at, row) in REFUSALS.iter().enumerate() {
+        if !is_refused(alloc, row.0, row.1, row.2) {
+            return Some(at);
         }
     }
-    Ok(())
-}
-
-/// So many parentheses around 1.
-fn nested(alloc: std::alloc::Global, depth: usize) -> Result<Vec<u8>, std::alloc::AllocError> {
-    let mut line = Vec::new(alloc);
-    for _level in 0..depth {
-        line.extend_from_slice(b"( ")?;
-    }
-    line.extend_from_slice(b"1")?;
-    for _level in 0..depth {
-        line.extend_from_slice(b" )")?;
-    }
-    Ok(line)
+    None
 }
 
 #[test]
-fn depths(rt: HostRuntime) -> Result<(), Fail> {
-    let alloc = rt.alloc();
-    let line = nested(alloc, 1000).expect(&rt, "memory");
-    assert!(rt; answer(alloc, &line, 500).is_ok());
-    let deeper = nested(alloc, 1001).expect(&rt, "memory");
-    match answer(alloc, &deeper, 500) {
-        Ok(_) => assert!(rt; false),
-        Err(error) => assert!(rt; error == CalcError::Fault(CalcFault::Deep)),
+fn refusals(rt: HostRuntime) {
+    assert_eq!(rt; wrong_refusal(rt.alloc()), None);
+}
+
+/// What is written of 1.
+const VALUE_OF_ONE: &[u8] = b"value 1\nstops 1 1\nmean 1\ntemperature none\nleft 0:1\nright 0:1\n";
+
+/// Appends a word so many times.
+fn append(line: &mut Vec<u8>, word: &[u8], count: usize) -> Result<(), AllocError> {
+    for _ in 0..count {
+        line.extend_from_slice(word)?;
     }
     Ok(())
+}
+
+/// Appends so many parentheses around 1.
+fn nest(line: &mut Vec<u8>, depth: usize) -> Result<(), AllocError> {
+    append(line, b"( ", depth)?;
+    append(line, b"1", 1)?;
+    append(line, b" )", depth)
+}
+
+/// Whether so many parentheses are answered.
+fn is_nested(alloc: Global, line: &mut Vec<u8>, depth: usize) -> bool {
+    nest(line, depth) == Ok(()) && is_answer(alloc, line, VALUE_OF_ONE)
+}
+
+/// Whether so many parentheses are too deep.
+fn is_too_deep(alloc: Global, line: &mut Vec<u8>, depth: usize) -> bool {
+    nest(line, depth) == Ok(()) && is_refused(alloc, line, 500, CalcError::Fault(CalcFault::Deep))
+}
+
+#[test]
+fn depths(rt: HostRuntime) {
+    assert!(rt; is_nested(rt.alloc(), &mut Vec::new(rt.alloc()), 1000));
+    assert!(rt; is_too_deep(rt.alloc(), &mut Vec::new(rt.alloc()), 1001));
 }

@@ -9,7 +9,7 @@ use std::alloc::Global;
 use std::rt::HostRuntime;
 
 /// The texts of two games, and how the first stands to the second.
-const ORDERS: [(&str, &str, Order); 12] = [
+static ORDERS: [(&str, &str, Order); 12] = [
     ("{-1|1}", "0", Order::Equal),
     ("{1,{0|0}|{0|0}}", "{1|*}", Order::Equal),
     ("0", "*", Order::Confused),
@@ -26,7 +26,7 @@ const ORDERS: [(&str, &str, Order); 12] = [
 ];
 
 /// The texts of a game and of its negative.
-const NEGATIVES: [(&str, &str); 8] = [
+static NEGATIVES: [(&str, &str); 8] = [
     ("0", "0"),
     ("-7", "7"),
     ("1/2", "-1/2"),
@@ -51,31 +51,45 @@ fn pair(alloc: Global, store: &mut Store, a: &str, b: &str) -> Option<(GameId, G
 }
 
 /// How the first of two games stands to the second.
-fn order_between(alloc: Global, a: &str, b: &str) -> Option<Order> {
-    let mut store = Store::new(alloc);
-    let (a, b) = pair(alloc, &mut store, a, b)?;
-    compare(alloc, &store, a, b).ok()
+fn order_between(alloc: Global, store: &mut Store, a: &str, b: &str) -> Option<Order> {
+    let (a, b) = pair(alloc, store, a, b)?;
+    compare(alloc, store, a, b).ok()
 }
 
 /// Whether the second game is the negative of the first, and the first that of the second.
-fn are_negatives(alloc: Global, a: &str, b: &str) -> Option<bool> {
-    let mut store = Store::new(alloc);
-    let (a, b) = pair(alloc, &mut store, a, b)?;
-    let of_first = negate(alloc, &mut store, a).ok()?;
-    let of_second = negate(alloc, &mut store, b).ok()?;
+fn are_negatives(alloc: Global, store: &mut Store, a: &str, b: &str) -> Option<bool> {
+    let (a, b) = pair(alloc, store, a, b)?;
+    let of_first = negate(alloc, store, a).ok()?;
+    let of_second = negate(alloc, store, b).ok()?;
     Some(of_first == b && of_second == a)
+}
+
+/// The first row of the table of orders that isn't so.
+fn wrong_order(alloc: Global) -> Option<usize> {
+    for (at, row) in ORDERS.iter().enumerate() {
+        if order_between(alloc, &mut Store::new(alloc), row.0, row.1) != Some(row.2) {
+            return Some(at);
+        }
+    }
+    None
+}
+
+/// The first row of the table of negatives that isn't so.
+fn wrong_negative(alloc: Global) -> Option<usize> {
+    for (at, row) in NEGATIVES.iter().enumerate() {
+        if are_negatives(alloc, &mut Store::new(alloc), row.0, row.1) != Some(true) {
+            return Some(at);
+        }
+    }
+    None
 }
 
 #[test]
 fn orders(rt: HostRuntime) {
-    for (a, b, order) in ORDERS {
-        assert_eq!(&rt; order_between(rt.alloc(), a, b), Some(order), "{a} and {b}");
-    }
+    assert_eq!(&rt; wrong_order(rt.alloc()), None);
 }
 
 #[test]
 fn negatives(rt: HostRuntime) {
-    for (a, b) in NEGATIVES {
-        assert_eq!(&rt; are_negatives(rt.alloc(), a, b), Some(true), "{a}");
-    }
+    assert_eq!(&rt; wrong_negative(rt.alloc()), None);
 }

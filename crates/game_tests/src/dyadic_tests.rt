@@ -1,7 +1,6 @@
 //! Fractions, halves and the simplest number between two.
 
 use dyadic_num::{Dyadic, EXPONENT, simplest_between};
-use std::test::Fail;
 
 /// The numerator and the exponent of the simplest number between two fractions.
 fn between(low: Option<(i128, u8)>, high: Option<(i128, u8)>) -> Option<(i128, u8)> {
@@ -23,48 +22,75 @@ fn lowest(numerator: i128, exponent: u8) -> Option<(i128, u8)> {
     Some((number.numerator(), number.exponent()))
 }
 
-#[test]
-fn fractions(rt: HostRuntime) -> Result<(), Fail> {
-    let table = [
-        ((2, 2), Some((1, 1))),
-        ((1, EXPONENT + 1), None),
-        ((-12, 2), Some((-3, 0))),
-        ((0, 255), Some((0, 0))),
-        ((1 << 100, 120), Some((1, 20))),
-        ((1 << EXPONENT, 0), None),
-        ((1 - (1 << EXPONENT), 0), Some((1 - (1 << EXPONENT), 0))),
-    ];
-    for ((numerator, exponent), expected) in table {
-        assert_eq!(rt; lowest(numerator, exponent), expected);
+/// A numerator and an exponent, and the same in lowest terms.
+static FRACTIONS: [((i128, u8), Option<(i128, u8)>); 7] = [
+    ((2, 2), Some((1, 1))),
+    ((1, EXPONENT + 1), None),
+    ((-12, 2), Some((-3, 0))),
+    ((0, 255), Some((0, 0))),
+    ((1 << 100, 120), Some((1, 20))),
+    ((1 << EXPONENT, 0), None),
+    ((1 - (1 << EXPONENT), 0), Some((1 - (1 << EXPONENT), 0))),
+];
+
+/// The first of the fractions with other lowest terms.
+fn wrong_fraction() -> Option<usize> {
+    for (at, row) in FRACTIONS.iter().enumerate() {
+        if lowest(row.0.0, row.0.1) != row.1 {
+            return Some(at);
+        }
     }
-    Ok(())
+    None
 }
 
 #[test]
-fn simplest(rt: HostRuntime) -> Result<(), Fail> {
-    let table = [
-        (Some((0, 0)), Some((1, 0)), Some((1, 1))),
-        (Some((1, 0)), Some((3, 0)), Some((2, 0))),
-        (None, None, Some((0, 0))),
-        (Some((1, 0)), Some((1, 0)), None),
-        (Some((0, 0)), Some((1, EXPONENT)), None),
-        (Some((-3, 2)), Some((-1, 2)), Some((-1, 1))),
-    ];
-    for (low, high, expected) in table {
-        assert_eq!(rt; between(low, high), expected);
+fn fractions(rt: HostRuntime) {
+    assert_eq!(rt; wrong_fraction(), None);
+}
+
+/// Two bounds, and the simplest number between them.
+type Simplest = (Option<(i128, u8)>, Option<(i128, u8)>, Option<(i128, u8)>);
+
+static SIMPLEST: [Simplest; 6] = [
+    (Some((0, 0)), Some((1, 0)), Some((1, 1))),
+    (Some((1, 0)), Some((3, 0)), Some((2, 0))),
+    (None, None, Some((0, 0))),
+    (Some((1, 0)), Some((1, 0)), None),
+    (Some((0, 0)), Some((1, EXPONENT)), None),
+    (Some((-3, 2)), Some((-1, 2)), Some((-1, 1))),
+];
+
+/// The first of the bounds with another number between them.
+fn wrong_bounds() -> Option<usize> {
+    for (at, row) in SIMPLEST.iter().enumerate() {
+        if between(row.0, row.1) != row.2 {
+            return Some(at);
+        }
     }
-    Ok(())
+    None
 }
 
 #[test]
-fn sums_and_halves(rt: HostRuntime) -> Result<(), Fail> {
-    let least = Dyadic::part(1, EXPONENT);
-    assert!(rt; least.is_some());
-    if let Some(least) = least {
-        assert!(rt; least.half().is_none());
-        assert!(rt; least.add(least.neg()) == Some(Dyadic::whole(0)));
-        assert!(rt; least.cmp(&Dyadic::whole(0)).is_gt());
+fn simplest(rt: HostRuntime) {
+    assert_eq!(rt; wrong_bounds(), None);
+}
+
+/// Whether the least number above 0 has no half, adds up to 0 with its negative, and is greater than 0.
+fn is_least(least: Dyadic) -> bool {
+    least.half().is_none()
+        && least.add(least.neg()) == Some(Dyadic::whole(0))
+        && least.cmp(&Dyadic::whole(0)).is_gt()
+}
+
+/// Whether there is a least number above 0.
+fn has_least() -> bool {
+    match Dyadic::part(1, EXPONENT) {
+        Some(least) => is_least(least),
+        None => false,
     }
-    assert!(rt; Dyadic::whole(3).half() == Dyadic::part(3, 1));
-    Ok(())
+}
+
+#[test]
+fn sums_and_halves(rt: HostRuntime) {
+    assert!(rt; has_least() && Dyadic::whole(3).half() == Dyadic::part(3, 1));
 }

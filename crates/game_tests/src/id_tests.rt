@@ -3,32 +3,45 @@
 use crate::sum_tests::star;
 use dyadic_num::Dyadic;
 use game_store::Store;
-use std::test::Fail;
+use std::alloc::AllocError;
 
 /// Numbers, by numerator and exponent.
-const NUMBERS: [(i128, u8); 4] = [(1, 1), (0, 0), (-3, 2), (7, 0)];
+static NUMBERS: [(i128, u8); 4] = [(1, 1), (0, 0), (-3, 2), (7, 0)];
 
-#[test]
-fn a_number_has_one_id(rt: HostRuntime) -> Result<(), Fail> {
-    let mut store = Store::new(rt.alloc());
-    for (place, (numerator, exponent)) in NUMBERS.into_iter().enumerate() {
-        match Dyadic::part(numerator, exponent) {
-            None => assert!(rt; false, "{place}"),
-            Some(number) => {
-                let first = store.number(number)?;
-                assert_eq!(rt; store.number(number)?, first, "{place}");
-            }
+/// Whether a number gets one id.
+fn has_one_id(store: &mut Store, number: Dyadic) -> Result<bool, AllocError> {
+    let first = store.number(number)?;
+    Ok(store.number(number)? == first)
+}
+
+/// The first of the numbers that doesn't get one id.
+fn wrong_number(store: &mut Store) -> Option<usize> {
+    for (at, row) in NUMBERS.iter().enumerate() {
+        match Dyadic::part(row.0, row.1) {
+            Some(number) if has_one_id(store, number) == Ok(true) => {}
+            _ => return Some(at),
         }
     }
-    assert_eq!(rt; store.len(), 4);
-    Ok(())
+    None
+}
+
+/// Whether each number gets one id.
+fn have_ids(store: &mut Store) -> bool {
+    wrong_number(store).is_none() && store.len() == 4
 }
 
 #[test]
-fn a_form_has_one_id(rt: HostRuntime) -> Result<(), Fail> {
-    let mut store = Store::new(rt.alloc());
-    let first = star(&mut store)?;
-    assert_eq!(rt; star(&mut store)?, first);
-    assert_eq!(rt; store.len(), 2);
-    Ok(())
+fn a_number_has_one_id(rt: HostRuntime) {
+    assert!(rt; have_ids(&mut Store::new(rt.alloc())));
+}
+
+/// Whether a form gets one id, beside that of its option.
+fn form_has_one_id(store: &mut Store) -> Result<bool, AllocError> {
+    let first = star(store)?;
+    Ok(star(store)? == first && store.len() == 2)
+}
+
+#[test]
+fn a_form_has_one_id(rt: HostRuntime) {
+    assert!(rt; form_has_one_id(&mut Store::new(rt.alloc())) == Ok(true));
 }

@@ -10,7 +10,6 @@ use game_canon::{
 use game_store::{GameId, Store};
 use std::alloc::{AllocError, Global};
 use std::rt::HostRuntime;
-use std::test::Fail;
 
 /// What a game comes to.
 #[derive(Clone, Copy)]
@@ -23,7 +22,7 @@ enum Made {
 }
 
 /// The first rows: numbers, by numerator and exponent.
-const NUMBERS: [(i128, u8); 8] = [
+static NUMBERS: [(i128, u8); 8] = [
     (0, 0),
     (1, 0),
     (2, 0),
@@ -38,7 +37,7 @@ const NUMBERS: [(i128, u8); 8] = [
 type FormRow = (&'static [usize], &'static [usize], u32, Made);
 
 /// The rows behind those of the numbers: forms.
-const FORMS: [FormRow; 32] = [
+static FORMS: [FormRow; 32] = [
     // 8: equal numbers
     (&[], &[], 1, Made::Row(0)),
     (&[0], &[1], 500, Made::Row(5)),
@@ -84,7 +83,9 @@ const FORMS: [FormRow; 32] = [
 ];
 
 /// A game by its row, a number, and what their sum comes to.
-const SUMS: [(usize, i128, u8, Made); 5] = [
+type SumRow = (usize, i128, u8, Made);
+
+static SUMS: [SumRow; 5] = [
     (14, 1, 1, Made::Row(37)),
     (37, -1, 1, Made::Row(14)),
     (38, 0, 0, Made::Row(38)),
@@ -94,7 +95,9 @@ const SUMS: [(usize, i128, u8, Made); 5] = [
 
 /// A game and an option of it, another game and an option of that, by their rows, and whether the first incentive is at
 /// least the second.
-const INCENTIVES: [(usize, usize, usize, usize, bool); 16] = [
+type IncentiveRow = (usize, usize, usize, usize, bool);
+
+static INCENTIVES: [IncentiveRow; 16] = [
     (34, 2, 14, 0, true),
     (14, 0, 34, 2, false),
     (34, 2, 34, 2, true),
@@ -140,37 +143,58 @@ fn are_ids(store: &Store, ids: &[GameId]) -> bool
     true
 }
 
-/// The canonical form of a row, or a refusal where an option is none of the store's.
+/// The canonical form with these options, or a refusal where an option is none of the store's.
+fn form_of(
+    alloc: Global,
+    store: &mut Store,
+    left: &[GameId],
+    right: &[GameId],
+    limit: u32,
+) -> Result<GameId, FormError> {
+    if !are_ids(store, left) || !are_ids(store, right) {
+        return Err(FormError::Bounds);
+    }
+    canonical(alloc, store, left, right, limit)
+}
+
+/// The canonical form of a row.
 fn form(
     alloc: Global,
     store: &mut Store,
     made: &[GameId],
-    row: FormRow,
+    row: &FormRow,
 ) -> Result<GameId, FormError> {
-    let (left, right, limit, _wants) = row;
-    let left = ids_of(alloc, made, left)?;
-    let right = ids_of(alloc, made, right)?;
-    if !are_ids(store, &left) {
-        return Err(FormError::Bounds);
-    }
-    if !are_ids(store, &right) {
-        return Err(FormError::Bounds);
-    }
-    canonical(alloc, store, &left, &right, limit)
+    let left = ids_of(alloc, made, row.0)?;
+    let right = ids_of(alloc, made, row.1)?;
+    form_of(alloc, store, &left, &right, row.2)
 }
 
-/// The ids of all rows.
-fn all_ids(alloc: Global, store: &mut Store) -> Result<Vec<GameId>, AllocError> {
-    let mut made = Vec::new(alloc);
-    for (numerator, exponent) in NUMBERS {
-        let number = Dyadic::part(numerator, exponent).unwrap_or(Dyadic::whole(0));
-        made.push(store.number(number)?)?;
+/// The id of a number, or of 0 where there is no such number.
+fn number(store: &mut Store, numerator: i128, exponent: u8) -> Result<GameId, AllocError> {
+    store.number(Dyadic::part(numerator, exponent).unwrap_or(Dyadic::whole(0)))
+}
+
+/// Adds the ids of the numbers.
+fn add_numbers(store: &mut Store, made: &mut Vec<GameId>) -> Result<(), AllocError> {
+    for row in NUMBERS.iter() {
+        made.push(number(store, row.0, row.1)?)?;
     }
-    for row in FORMS {
-        let id = form(alloc, store, &made, row).unwrap_or(GameId::MAX);
+    Ok(())
+}
+
+/// Adds the ids of the forms.
+fn add_forms(alloc: Global, store: &mut Store, made: &mut Vec<GameId>) -> Result<(), AllocError> {
+    for row in FORMS.iter() {
+        let id = form(alloc, store, made, row).unwrap_or(GameId::MAX);
         made.push(id)?;
     }
-    Ok(made)
+    Ok(())
+}
+
+/// Adds the ids of all rows.
+fn add_rows(alloc: Global, store: &mut Store, made: &mut Vec<GameId>) -> Result<(), AllocError> {
+    add_numbers(store, made)?;
+    add_forms(alloc, store, made)
 }
 
 /// Whether the id is that of the row, of no earlier row, and of a form with so many parts.
@@ -200,14 +224,18 @@ fn comes_to(
     }
 }
 
+/// Whether the form of a row comes to what the row wants.
+fn is_form(alloc: Global, store: &mut Store, made: &[GameId], row: &FormRow, place: usize) -> bool {
+    let got = form(alloc, store, made, row);
+    comes_to(alloc, store, made, got, row.3, place)
+}
+
 /// The first row of a form that comes to something else.
 fn wrong_form(alloc: Global, store: &mut Store, made: &[GameId]) -> Option<usize> {
-    for place in 0..FORMS.len() {
-        let wants = FORMS[place];
-        let row = NUMBERS.len() + place;
-        let got = form(alloc, store, made, wants);
-        if !comes_to(alloc, store, made, got, wants.3, row) {
-            return Some(row);
+    for (at, row) in FORMS.iter().enumerate() {
+        let place = at.saturating_add(NUMBERS.len());
+        if !is_form(alloc, store, made, row, place) {
+            return Some(place);
         }
     }
     None
@@ -228,12 +256,17 @@ fn sum(
     add_number(alloc, store, id, number)
 }
 
+/// Whether a sum comes to what its row wants.
+fn is_sum(alloc: Global, store: &mut Store, made: &[GameId], row: &SumRow) -> bool {
+    let got = sum(alloc, store, id_of(made, row.0), row.1, row.2);
+    comes_to(alloc, store, made, got, row.3, 0)
+}
+
 /// The game of the first sum that comes to something else.
 fn wrong_sum(alloc: Global, store: &mut Store, made: &[GameId]) -> Option<usize> {
-    for (game, numerator, exponent, wants) in SUMS {
-        let got = sum(alloc, store, id_of(made, game), numerator, exponent);
-        if !comes_to(alloc, store, made, got, wants, 0) {
-            return Some(game);
+    for row in SUMS.iter() {
+        if !is_sum(alloc, store, made, row) {
+            return Some(row.0);
         }
     }
     None
@@ -274,26 +307,43 @@ fn at_least(
     }
 }
 
-/// The games of the first two incentives that compare otherwise.
-fn wrong_incentives(alloc: Global, store: &Store, made: &[GameId]) -> Option<(usize, usize)> {
+/// Whether two incentives compare so.
+fn compare_so(
+    alloc: Global,
+    comparisons: &mut SumComparisons,
+    store: &Store,
+    made: &[GameId],
+    row: &IncentiveRow,
+) -> bool
+    requires { AreComparisonsRight store.now comparisons.old }
+    ensures { AreComparisonsRight store.now comparisons.new }
+{
+    let first = (id_of(made, row.0), id_of(made, row.1));
+    let second = (id_of(made, row.2), id_of(made, row.3));
+    at_least(alloc, comparisons, store, first, second) == Some(row.4)
+}
+
+/// The first of the rows whose incentives compare otherwise.
+fn wrong_incentives(alloc: Global, store: &Store, made: &[GameId]) -> Option<usize> {
     let mut comparisons = SumComparisons::new(alloc);
-    'rows: for (game, option, other, other_option, wants) in INCENTIVES {
-        let first = (id_of(made, game), id_of(made, option));
-        let second = (id_of(made, other), id_of(made, other_option));
-        if at_least(alloc, &mut comparisons, store, first, second) != Some(wants) {
-            return Some((game, other));
+    'rows: for (at, row) in INCENTIVES.iter().enumerate() {
+        if !compare_so(alloc, &mut comparisons, store, made, row) {
+            return Some(at);
         }
     }
     None
 }
 
+/// Whether all forms, sums and incentives are so.
+fn are_right(alloc: Global, store: &mut Store, made: &mut Vec<GameId>) -> bool {
+    add_rows(alloc, store, made) == Ok(())
+        && wrong_form(alloc, store, made).is_none()
+        && wrong_sum(alloc, store, made).is_none()
+        && wrong_incentives(alloc, store, made).is_none()
+}
+
 #[test]
-fn forms_sums_and_incentives(rt: HostRuntime) -> Result<(), Fail> {
+fn forms_sums_and_incentives(rt: HostRuntime) {
     let alloc = rt.alloc();
-    let mut store = Store::new(alloc);
-    let made = all_ids(alloc, &mut store)?;
-    assert_eq!(&rt; wrong_form(alloc, &mut store, &made), None);
-    assert_eq!(&rt; wrong_sum(alloc, &mut store, &made), None);
-    assert_eq!(&rt; wrong_incentives(alloc, &store, &made), None);
-    Ok(())
+    assert!(&rt; are_right(alloc, &mut Store::new(alloc), &mut Vec::new(alloc)));
 }

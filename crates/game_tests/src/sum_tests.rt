@@ -1,8 +1,8 @@
 //! Who loses sums of small games.
 
-ghost use Rattle.std.specs.Prelude.{◌≡◌, ◌<◌, ◌≤◌, ◌^◌, pos, List, length, unsigned_abs, IfOk, IfSome};
+ghost use Rattle.std.specs.Prelude.{◌≡◌, ◌<◌, ◌≤◌, ◌^◌, pos, length, unsigned_abs, IfOk, IfSome};
 ghost use Rattle.short_games.specs.Number.{num};
-ghost use Rattle.short_games.specs.Tree.{Tree, tree_at};
+ghost use Rattle.short_games.specs.Tree.{tree_at};
 ghost use Rattle.game_store.specs.Meaning.{IsIdOf, Extends};
 ghost use Rattle.short_games.specs.Examples.{choice, star as the_star};
 ghost use Rattle.sum_outcome.specs.Memo.{Fits};
@@ -13,7 +13,6 @@ use game_canon::add_number;
 use game_store::{GameId, Store};
 use go_grid::Colour;
 use std::alloc::{AllocError, Global};
-use std::test::Fail;
 use sum_outcome::{MOST_ENTRIES, Search};
 
 /// The game `{0|0}`.
@@ -54,15 +53,6 @@ pub(crate) fn loses(
     Some(search.loses(store, sum, number, side))
 }
 
-/// Star and `{1|{0|0}}` in a store, and a search that has asked nothing yet.
-#[derive(Drop)]
-struct SearchedGames {
-    store: Store,
-    search: Search,
-    star: GameId,
-    one_or_star: GameId,
-}
-
 /// The two games.
 fn both(store: &mut Store) -> Result<(GameId, GameId), AllocError>
     ensures star { IfOk result (λ games. IsIdOf store.new the_star games.0) }
@@ -72,26 +62,6 @@ fn both(store: &mut Store) -> Result<(GameId, GameId), AllocError>
     let star = star(store)?;
     let other = one_or_star(store, star)?;
     Ok((star, other))
-}
-
-/// The two games, and a search that remembers at most so many sums.
-fn searched(alloc: Global, most: usize) -> Result<SearchedGames, AllocError>
-    requires some { 1 ≤ most }
-    requires most { most ≤ MOST_ENTRIES }
-    ensures star { IfOk result (λ all. IsIdOf all.store the_star all.star) }
-    ensures other { IfOk result (λ all. IsIdOf all.store
-        (choice (num 0 (pos 1)) the_star) all.one_or_star) }
-    ensures fits { IfOk result (λ all. (Ts : List Tree) → Fits Ts all.search) }
-{
-    let search = Search::new(alloc, most)?;
-    let mut store = Store::new(alloc);
-    let (star, one_or_star) = both(&mut store)?;
-    Ok(SearchedGames {
-        store,
-        search,
-        star,
-        one_or_star,
-    })
 }
 
 /// Whether who is to move loses: star, and two; `{1|{0|0}}` with one less, two less and half of one less, with Black to
@@ -111,21 +81,26 @@ fn lose(search: &mut Search, store: &Store, star: GameId, other: GameId) -> [Opt
     ]
 }
 
+/// Who loses.
+const LOSERS: [Option<bool>; 6] = [
+    Some(false),
+    Some(true),
+    Some(false),
+    Some(true),
+    Some(false),
+    Some(true),
+];
+
+/// Whether these lose, where at most one sum is remembered.
+fn are_losers(alloc: Global, store: &mut Store) -> Result<bool, AllocError> {
+    let (star, other) = both(store)?;
+    let mut search = Search::new(alloc, 1)?;
+    Ok(lose(&mut search, store, star, other) == LOSERS)
+}
+
 #[test]
-fn sums(rt: HostRuntime) -> Result<(), Fail> {
-    let mut all = searched(rt.alloc(), 1)?;
-    assert_eq!(&rt;
-        lose(&mut all.search, &all.store, all.star, all.one_or_star),
-        [
-            Some(false),
-            Some(true),
-            Some(false),
-            Some(true),
-            Some(false),
-            Some(true)
-        ]
-    );
-    Ok(())
+fn sums(rt: HostRuntime) {
+    assert!(&rt; are_losers(rt.alloc(), &mut Store::new(rt.alloc())) == Ok(true));
 }
 
 /// Whether Black, who is to move, loses 40 times a game with so many halves, and 39 times.
@@ -164,18 +139,23 @@ fn lose_many(
     ]
 }
 
+/// Whether Black loses 40 and 39 times each game.
+const MANY_LOSERS: [(Option<bool>, Option<bool>); 3] = [
+    (Some(true), Some(false)),
+    (Some(true), Some(true)),
+    (Some(false), Some(false)),
+];
+
+/// Whether these lose many games.
+fn are_many_losers(alloc: Global, store: &mut Store) -> Result<bool, AllocError> {
+    let (star, other) = both(store)?;
+    let mut search = Search::new(alloc, 10_000)?;
+    Ok(lose_many(&mut search, store, star, other) == MANY_LOSERS)
+}
+
 #[test]
-fn many_games(rt: HostRuntime) -> Result<(), Fail> {
-    let mut all = searched(rt.alloc(), 10_000)?;
-    assert_eq!(&rt;
-        lose_many(&mut all.search, &all.store, all.star, all.one_or_star),
-        [
-            (Some(true), Some(false)),
-            (Some(true), Some(true)),
-            (Some(false), Some(false)),
-        ]
-    );
-    Ok(())
+fn many_games(rt: HostRuntime) {
+    assert!(&rt; are_many_losers(rt.alloc(), &mut Store::new(rt.alloc())) == Ok(true));
 }
 
 /// The game with each whole number from -14 to 15 added to it.
@@ -207,14 +187,25 @@ fn lose_by_stops(search: &mut Search, store: &Store, sum: &mut [GameId]) -> [Opt
     ]
 }
 
+/// Whether who moves first loses the sum, as a search tells that remembers at most one.
+fn are_lost(alloc: Global, store: &Store, sum: &mut [GameId]) -> Result<bool, AllocError>
+    requires games { AreSmall store.now sum.old }
+    requires few { length sum.old ≤ 40 }
+{
+    let mut search = Search::new(alloc, 1)?;
+    Ok(lose_by_stops(&mut search, store, sum) == [Some(true), Some(true)])
+}
+
+/// The same of the different games.
+fn are_different_lost(alloc: Global, store: &mut Store) -> Result<bool, AllocError> {
+    let (_star, other) = both(store)?;
+    match shifted(alloc, store, other) {
+        Some(mut games) => are_lost(alloc, store, &mut games),
+        None => Ok(false),
+    }
+}
+
 #[test]
-fn different_games(rt: HostRuntime) -> Result<(), Fail> {
-    let alloc = rt.alloc();
-    let mut all = searched(alloc, 1)?;
-    let mut games = shifted(alloc, &mut all.store, all.one_or_star).expect(&rt, "memory");
-    assert_eq!(&rt;
-        lose_by_stops(&mut all.search, &all.store, &mut games),
-        [Some(true), Some(true)]
-    );
-    Ok(())
+fn different_games(rt: HostRuntime) {
+    assert!(&rt; are_different_lost(rt.alloc(), &mut Store::new(rt.alloc())) == Ok(true));
 }

@@ -1,26 +1,34 @@
 //! Worked texts.
 
 use dyadic_num::Dyadic;
+use game_canon::FormError;
 use game_store::{GameId, Store};
-use game_text::{ReadError, Text, WriteError, read, write};
+use game_text::{ReadError, WriteError, read, write};
 use std::alloc::{AllocError, Global};
-use std::test::Fail;
 use worked_forms::form;
 
-/// The text of the form that a text names, or why there is none.
-fn written(
-    alloc: Global,
-    text: &[u8],
-    limit: usize,
-) -> Result<Result<Text, WriteError>, ReadError> {
-    let mut store = Store::new(alloc);
-    let id = read(alloc, &mut store, text, 500)?;
-    Ok(write(alloc, &store, id, limit))
+/// Whether a game is written so, or is too long where nothing is wanted.
+fn is_shown(alloc: Global, store: &Store, id: GameId, limit: usize, want: &[u8]) -> bool {
+    if id >= store.len() {
+        return false;
+    }
+    match write(alloc, store, id, limit) {
+        Ok(found) => found.as_slice() == want,
+        Err(cause) => cause == WriteError::Long && want.is_empty(),
+    }
+}
+
+/// Whether the form that a text names is written so, or is too long where nothing is wanted.
+fn is_written(alloc: Global, store: &mut Store, text: &[u8], limit: usize, want: &[u8]) -> bool {
+    match read(alloc, store, text, 500) {
+        Ok(id) => is_shown(alloc, store, id, limit, want),
+        Err(_error) => false,
+    }
 }
 
 /// Texts of forms and what is written of them; among them games that the field names (Siegel, Combinatorial Game Theory),
 /// and corridors of one to five points.
-const TEXTS: [(&[u8], &[u8]); 39] = [
+static TEXTS: [(&[u8], &[u8]); 39] = [
     (b"0", b"0"),
     (b"-3", b"-3"),
     (b"-1/2", b"-1/2"),
@@ -72,21 +80,23 @@ const TEXTS: [(&[u8], &[u8]); 39] = [
     (b"{{{{{0|0}|-1}|-2}|-3}|-4}", b"{{{{*|-1}|-2}|-3}|-4}"),
 ];
 
-#[test]
-fn texts(rt: HostRuntime) -> Result<(), Fail> {
-    let alloc = rt.alloc();
-    for (text, want) in &TEXTS {
-        match written(alloc, text, 100) {
-            Ok(Ok(found)) => assert_eq!(rt; found.as_slice(), *want),
-            Ok(Err(_)) => assert!(rt; false),
-            Err(_) => assert!(rt; false),
+/// The first of the texts of which something else is written.
+fn wrong_text(alloc: Global) -> Option<usize> {
+    for (at, row) in TEXTS.iter().enumerate() {
+        if !is_written(alloc, &mut Store::new(alloc), row.0, 100, row.1) {
+            return Some(at);
         }
     }
-    Ok(())
+    None
+}
+
+#[test]
+fn texts(rt: HostRuntime) {
+    assert_eq!(rt; wrong_text(rt.alloc()), None);
 }
 
 /// The text of a game in braces, and with names.
-const BOTH_EDITIONS: [(&[u8], &[u8]); 12] = [
+static BOTH_EDITIONS: [(&[u8], &[u8]); 12] = [
     (b"{0|{0|0}}", b"^"),
     (b"{{0|0}|0}", b"v"),
     (b"{0|0}", b"*"),
@@ -101,21 +111,32 @@ const BOTH_EDITIONS: [(&[u8], &[u8]); 12] = [
     (b"{^|v}", b"*"),
 ];
 
+/// Whether two texts are read as one id.
+fn are_one(alloc: Global, store: &mut Store, text: &[u8], named: &[u8]) -> bool {
+    match read(alloc, store, text, 500) {
+        Ok(id) => read(alloc, store, named, 500) == Ok(id),
+        Err(_error) => false,
+    }
+}
+
+/// The first of the games whose texts aren't read as one id.
+fn wrong_edition(alloc: Global) -> Option<usize> {
+    for (at, row) in BOTH_EDITIONS.iter().enumerate() {
+        if !are_one(alloc, &mut Store::new(alloc), row.0, row.1) {
+            return Some(at);
+        }
+    }
+    None
+}
+
 /// Both texts of a game are read as one id, and names beside other games.
 #[test]
-fn both_editions(rt: HostRuntime) -> Result<(), Fail> {
-    let alloc = rt.alloc();
-    for (text, named) in &BOTH_EDITIONS {
-        let mut store = Store::new(alloc);
-        let one = read(alloc, &mut store, text, 500).expect(&rt, "a text");
-        let other = read(alloc, &mut store, named, 500).expect(&rt, "a named text");
-        assert_eq!(rt; one, other);
-    }
-    Ok(())
+fn both_editions(rt: HostRuntime) {
+    assert_eq!(rt; wrong_edition(rt.alloc()), None);
 }
 
 /// A text, the most bytes of what is written of it, and that text, or none where it is longer.
-const LENGTHS: [(&[u8], usize, &[u8]); 12] = [
+static LENGTHS: [(&[u8], usize, &[u8]); 12] = [
     (b"{0|0}", 0, b""),
     (b"{0|0}", 1, b"*"),
     (b"{1|{0|0}}", 4, b""),
@@ -130,24 +151,23 @@ const LENGTHS: [(&[u8], usize, &[u8]); 12] = [
     (b"{0,{0|0}|0}", 9, b"{*,0|0}"),
 ];
 
-#[test]
-fn lengths(rt: HostRuntime) -> Result<(), Fail> {
-    let alloc = rt.alloc();
-    for (text, limit, want) in &LENGTHS {
-        match written(alloc, text, *limit) {
-            Ok(Ok(found)) => assert_eq!(rt; found.as_slice(), *want),
-            Ok(Err(cause)) => {
-                assert!(rt; want.is_empty());
-                assert_eq!(rt; cause, WriteError::Long);
-            }
-            Err(_) => assert!(rt; false),
+/// The first of the texts that isn't written to its length.
+fn wrong_length(alloc: Global) -> Option<usize> {
+    for (at, row) in LENGTHS.iter().enumerate() {
+        if !is_written(alloc, &mut Store::new(alloc), row.0, row.1, row.2) {
+            return Some(at);
         }
     }
-    Ok(())
+    None
+}
+
+#[test]
+fn lengths(rt: HostRuntime) {
+    assert_eq!(rt; wrong_length(rt.alloc()), None);
 }
 
 /// A text, the most parts of a form, and why it is refused.
-const REFUSALS: [(&[u8], u32, ReadError); 48] = [
+static REFUSALS: [(&[u8], u32, ReadError); 48] = [
     (b"*1", 500, ReadError::BadNumber(1)),
     (b"*0", 500, ReadError::BadNumber(1)),
     (b"*02", 500, ReadError::BadNumber(1)),
@@ -198,28 +218,34 @@ const REFUSALS: [(&[u8], u32, ReadError); 48] = [
     (b"{1152921504606846975|}", 500, ReadError::Bounds),
 ];
 
-#[test]
-fn refusals(rt: HostRuntime) -> Result<(), Fail> {
-    let alloc = rt.alloc();
-    for (text, parts_limit, want) in &REFUSALS {
-        let mut store = Store::new(alloc);
-        assert_eq!(rt; read(alloc, &mut store, text, *parts_limit), Err(*want));
+/// The first of the texts that isn't refused so.
+fn wrong_refusal(alloc: Global) -> Option<usize> {
+    for (at, row) in REFUSALS.iter().enumerate() {
+        if read(alloc, &mut Store::new(alloc), row.0, row.1) != Err(row.2) {
+            return Some(at);
+        }
     }
-    Ok(())
+    None
+}
+
+#[test]
+fn refusals(rt: HostRuntime) {
+    assert_eq!(rt; wrong_refusal(rt.alloc()), None);
 }
 
 /// So many opening braces.
 fn openings(alloc: Global, count: usize) -> Result<Vec<u8>, AllocError> {
-    let mut text = Vec::new(alloc);
-    for _ in 0..count {
-        text.push(b'{')?;
-    }
-    Ok(text)
+    vec![in alloc; b'{'; count]
 }
 
-/// The text of a corridor, `{N|..{2|{1|0}}..}`, whose braces nest so deep.
-fn corridor(alloc: Global, depth: u32) -> Result<String, AllocError> {
-    let mut text = String::new(alloc);
+/// Whether so many opening braces are refused so.
+fn are_refused(alloc: Global, count: usize, want: ReadError) -> Result<bool, AllocError> {
+    let text = openings(alloc, count)?;
+    Ok(read(alloc, &mut Store::new(alloc), &text, 500) == Err(want))
+}
+
+/// Appends the text of a corridor, `{N|..{2|{1|0}}..}`, whose braces nest so deep.
+fn append_corridor(text: &mut String, depth: u32) -> Result<(), AllocError> {
     for step in 0..depth {
         write!(text, "{{{}|", depth - step)?;
     }
@@ -227,50 +253,51 @@ fn corridor(alloc: Global, depth: u32) -> Result<String, AllocError> {
     for _ in 0..depth {
         text.push_str("}")?;
     }
+    Ok(())
+}
+
+/// The text of such a corridor.
+fn corridor(alloc: Global, depth: u32) -> Result<String, AllocError> {
+    let mut text = String::new(alloc);
+    append_corridor(&mut text, depth)?;
     Ok(text)
 }
 
-/// The text of a form, where it is the store's.
-fn shown(alloc: Global, store: &Store, id: GameId) -> Option<Result<Text, WriteError>> {
-    if id >= store.len() {
-        return None;
-    }
-    Some(write(alloc, store, id, 100_000))
+/// Whether a game isn't written, as its braces nest too deep.
+fn is_too_deep(alloc: Global, store: &Store, id: GameId) -> bool {
+    id < store.len() && matches!(write(alloc, store, id, 100_000), Err(WriteError::Deep))
 }
 
-/// What reading so many opening braces comes to.
-fn read_openings(alloc: Global, count: usize) -> Result<Result<GameId, ReadError>, AllocError> {
-    let text = openings(alloc, count)?;
-    Ok(read(alloc, &mut Store::new(alloc), &text, 500))
+/// The game from which Left goes to a number and Right to a game.
+fn longer(alloc: Global, store: &mut Store, number: i32, id: GameId) -> Result<GameId, FormError> {
+    let top = store.number(Dyadic::whole(number))?;
+    form(alloc, store, &[top], &[id])
+}
+
+/// Whether the game is written so, and the one that is longer by one isn't written.
+fn ends_at(alloc: Global, store: &mut Store, id: GameId, text: &[u8]) -> bool {
+    if !is_shown(alloc, store, id, 100_000, text) {
+        return false;
+    }
+    match longer(alloc, store, 1001, id) {
+        Ok(deeper) => is_too_deep(alloc, store, deeper),
+        Err(_error) => false,
+    }
 }
 
 /// Whether a corridor whose braces nest 1,000 deep is read, and written so, and one that is longer by one isn't written.
-fn is_written_to_the_depth(alloc: Global, store: &mut Store) -> Option<bool> {
-    let Ok(text) = corridor(alloc, 1000) else {
-        return None;
-    };
-    let Ok(id) = read(alloc, store, text.as_bytes(), 2000) else {
-        return None;
-    };
-    let Ok(found) = shown(alloc, store, id)? else {
-        return None;
-    };
-    let Ok(top) = store.number(Dyadic::whole(1001)) else {
-        return None;
-    };
-    let Ok(deeper) = form(alloc, store, &[top], &[id]) else {
-        return None;
-    };
-    let refused = matches!(shown(alloc, store, deeper)?, Err(WriteError::Deep));
-    Some(refused && found.as_slice() == text.as_bytes())
+fn is_written_to_the_depth(alloc: Global, store: &mut Store) -> Result<bool, AllocError> {
+    let text = corridor(alloc, 1000)?;
+    match read(alloc, store, text.as_bytes(), 2000) {
+        Ok(id) => Ok(ends_at(alloc, store, id, text.as_bytes())),
+        Err(_error) => Ok(false),
+    }
 }
 
 #[test]
-fn depths(rt: HostRuntime) -> Result<(), Fail> {
+fn depths(rt: HostRuntime) {
     let alloc = rt.alloc();
-    assert_eq!(rt; read_openings(alloc, 1000)?, Err(ReadError::CutShort));
-    assert_eq!(rt; read_openings(alloc, 1001)?, Err(ReadError::Deep));
-    let mut store = Store::new(alloc);
-    assert_eq!(rt; is_written_to_the_depth(alloc, &mut store), Some(true));
-    Ok(())
+    assert!(rt; are_refused(alloc, 1000, ReadError::CutShort) == Ok(true));
+    assert!(rt; are_refused(alloc, 1001, ReadError::Deep) == Ok(true));
+    assert!(rt; is_written_to_the_depth(alloc, &mut Store::new(alloc)) == Ok(true));
 }

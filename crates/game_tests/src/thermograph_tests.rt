@@ -14,7 +14,7 @@ use thermograph::{ThermoError, Thermograph, Wall, draw};
 const QUARTER: i128 = 1 << (EXPONENT - 2);
 
 /// The text of a game, and its stops in quarters.
-const STOPS: [(&str, i32, i32); 16] = [
+static STOPS: [(&str, i32, i32); 16] = [
     ("^", 0, 0),
     ("1/2", 2, 2),
     ("{2|1/2}", 8, 2),
@@ -43,7 +43,7 @@ type Drawn = (
     Option<i32>,
 );
 
-const THERMOGRAPHS: [Drawn; 18] = [
+static THERMOGRAPHS: [Drawn; 18] = [
     ("3", &[(0, 12)], &[(0, 12)], 12, None),
     ("^", &[(0, 0)], &[(0, 0)], 0, Some(0)),
     ("{2|0}", &[(0, 8), (4, 4)], &[(0, 0), (4, 4)], 4, Some(4)),
@@ -154,46 +154,68 @@ fn has_stops(alloc: Global, store: &mut Store, text: &str, left: i32, right: i32
     is_quarters(left_stop(store, id), left) && is_quarters(right_stop(store, id), right)
 }
 
-#[test]
-fn stops_of_games(rt: HostRuntime) {
-    for (text, left, right) in STOPS {
-        let mut store = Store::new(rt.alloc());
-        assert!(&rt;
-            has_stops(rt.alloc(), &mut store, text, left, right),
-            "{text}"
-        );
+/// The first of the games with other stops.
+fn wrong_stops(alloc: Global) -> Option<usize> {
+    for (at, row) in STOPS.iter().enumerate() {
+        if !has_stops(alloc, &mut Store::new(alloc), row.0, row.1, row.2) {
+            return Some(at);
+        }
     }
+    None
 }
 
-/// What comes of drawing the thermograph of the game that a text names.
-fn drawn(alloc: Global, store: &mut Store, text: &str) -> Option<Result<Thermograph, ThermoError>> {
-    let id = named(alloc, store, text)?;
-    Some(draw(alloc, store, id))
+#[test]
+fn stops_of_games(rt: HostRuntime) {
+    assert_eq!(&rt; wrong_stops(rt.alloc()), None);
 }
 
 /// Whether the thermograph is the one of the row.
-fn is_drawn(alloc: Global, store: &mut Store, row: Drawn) -> bool {
-    let (text, left, right, mean, temperature) = row;
-    let Some(Ok(drawn)) = drawn(alloc, store, text) else {
+fn is_thermograph(drawn: &Thermograph, row: &Drawn) -> bool {
+    has_points(&drawn.left, row.1)
+        && has_points(&drawn.right, row.2)
+        && is_quarters(drawn.mean, row.3)
+        && has_temperature(drawn.temperature, row.4)
+}
+
+/// Whether the thermograph of the game that a text names is the one of the row.
+fn is_drawn(alloc: Global, store: &mut Store, row: &Drawn) -> bool {
+    let Some(id) = named(alloc, store, row.0) else {
         return false;
     };
-    has_points(&drawn.left, left)
-        && has_points(&drawn.right, right)
-        && is_quarters(drawn.mean, mean)
-        && has_temperature(drawn.temperature, temperature)
+    match draw(alloc, store, id) {
+        Ok(drawn) => is_thermograph(&drawn, row),
+        Err(_error) => false,
+    }
+}
+
+/// The first of the games with another thermograph.
+fn wrong_thermograph(alloc: Global) -> Option<usize> {
+    for (at, row) in THERMOGRAPHS.iter().enumerate() {
+        if !is_drawn(alloc, &mut Store::new(alloc), row) {
+            return Some(at);
+        }
+    }
+    None
 }
 
 #[test]
 fn thermographs(rt: HostRuntime) {
-    for row in THERMOGRAPHS {
-        let mut store = Store::new(rt.alloc());
-        assert!(&rt; is_drawn(rt.alloc(), &mut store, row), "{}", row.0);
+    assert_eq!(&rt; wrong_thermograph(rt.alloc()), None);
+}
+
+/// Whether the thermograph of the game that a text names is past the bounds.
+fn is_past_the_bounds(alloc: Global, store: &mut Store, text: &str) -> bool {
+    let Some(id) = named(alloc, store, text) else {
+        return false;
+    };
+    match draw(alloc, store, id) {
+        Ok(_drawn) => false,
+        Err(error) => matches!(error, ThermoError::Bounds),
     }
 }
 
 #[test]
 fn past_the_bounds(rt: HostRuntime) {
-    let mut store = Store::new(rt.alloc());
-    let drawn = drawn(rt.alloc(), &mut store, "{1/1152921504606846976|0}");
-    assert!(&rt; matches!(drawn, Some(Err(ThermoError::Bounds))));
+    let text = "{1/1152921504606846976|0}";
+    assert!(&rt; is_past_the_bounds(rt.alloc(), &mut Store::new(rt.alloc()), text));
 }
