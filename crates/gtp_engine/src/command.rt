@@ -7,7 +7,7 @@ ghost use Rattle.gtp_engine.specs.declared.command.Command.{Command};
 use std::str;
 
 /// The commands.
-#[derive(Clone, Copy, Debug, PartialEq, Eq)]
+#[derive(Clone, Copy)]
 pub(crate) enum Command {
     ProtocolVersion,
     Name,

@@ -31,8 +31,8 @@ use local_play::Steps;
 use sgf_go::Setup;
 use std::alloc::{AllocError, Global};
 use std::marker::Model;
-use std::str;
 use std::sync::ledger::Ledger;
+use std::{mem, str};
 
 /// The reply to a line, and whether the session ends with it.
 #[derive(Debug, Drop)]
@@ -119,7 +119,8 @@ impl Engine {
         } }
     {
         self.setup = setup;
-        self.game = game;
+        // A game is large: as a call its drop is one step of the proof.
+        drop(mem::replace(&mut self.game, game));
     }
 
     /// A fresh empty board of a size with the present komi.

@@ -11,7 +11,7 @@ use std::alloc::{AllocError, Global};
 use whole_rules::Move;
 
 /// What a move's word says.
-#[derive(Clone, Copy, Debug, PartialEq, Eq)]
+#[derive(Clone, Copy)]
 pub(crate) enum Wanted {
     At(Vertex),
     Pass,

@@ -8,7 +8,7 @@ use gtp_words::compose;
 use std::alloc::{AllocError, Global};
 
 /// Why a request is refused.
-#[derive(Clone, Copy, Debug, PartialEq, Eq)]
+#[derive(Clone, Copy)]
 pub(crate) enum Refusal {
     UnknownCommand,
     SyntaxError,

@@ -72,9 +72,16 @@ impl Engine {
             let reply = refuse(alloc, id, Refusal::CannotSolve)?;
             return Ok(reply);
         };
-        let reply = act(alloc, id, &mut game, action)?;
-        self.put(setup, Some(game));
-        Ok(reply)
+        match act(alloc, id, &mut game, action) {
+            Ok(reply) => {
+                self.put(setup, Some(game));
+                Ok(reply)
+            }
+            Err(cause) => {
+                drop(game);
+                Err(cause)
+            }
+        }
     }
 
     /// A turn of the colour.
