@@ -15,8 +15,8 @@ use go_grid::{Board, Colour, Point, Size};
 use std::alloc::{AllocError, Global};
 
 /// A chain by its lowest stone.
-#[derive(Debug, Drop)]
-pub struct ChainLine {
+#[derive(Drop)]
+pub(crate) struct ChainLine {
     pub lowest: Point,
     pub colour: Colour,
     pub stones: usize,

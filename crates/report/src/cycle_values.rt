@@ -1,6 +1,6 @@
 //! The text of `values` where kos can arise.
 
-ghost use Rattle.std.specs.Prelude.{◌≡◌, ◌↔◌, ◌<◌, ◌*◌, length, IfOk, IfErr, OnOk, IsTrue, string_bytes};
+ghost use Rattle.std.specs.Prelude.{◌≡◌, ◌↔◌, ◌<◌, ◌*◌, length, IfOk, IfErr, OnOk, IsTrue};
 ghost use Rattle.short_games.specs.Tree.{tree_at};
 ghost use Rattle.game_lines.specs.Showings.{IsUnshown};
 ghost use Rattle.report.specs.CycleValues.{IsCycleValuesText, IsFirstCycleUnshown};
@@ -8,7 +8,7 @@ ghost use Rattle.report.specs.Values.{IsRefusal};
 ghost use Rattle.report.specs.inner.CycleValues.{AreUnshown, HasLinesOf, HasLinesOfBoth, HasLinesOfEach, HasReport};
 
 use crate::solution::write_count;
-use crate::values::{ValuesError, region_line, show_value};
+use crate::values::{ValuesError, add_region, show_value};
 use cycle_solver::{CycleGame, CycleReport};
 use game_lines::write_labelled;
 use game_store::{GameId, Store};
@@ -84,8 +84,14 @@ fn write_entry(
     ensures refusal { IfErr result (IsRefusal (λ p. (p ≡ report.lowest)
         × AreUnshown store.now report)) }
 {
-    let line = region_line(alloc, size, report.lowest, report.points, report.positions)?;
-    text.extend_from_slice(line.as_bytes())?;
+    add_region(
+        alloc,
+        text,
+        size,
+        report.lowest,
+        report.points,
+        report.positions,
+    )?;
     write_values(alloc, text, store, report)?;
     Ok(())
 }

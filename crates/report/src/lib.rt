@@ -18,12 +18,11 @@ mod values;
 
 pub use analysis::{margin_text, moves_text};
 pub use board::{Terms, board_text};
-pub use chains::ChainLine;
 pub use cycle_analysis::{cycle_margin_text, cycle_moves_text};
 pub use cycle_solution::cycle_solve_text;
 pub use cycle_values::cycle_values_text;
 pub use play_line::line_text;
-pub use safety::{CountedLine, safe_text};
+pub use safety::safe_text;
 pub use score::{Score, score_of};
 pub use solution::solve_text;
 pub use top_stones::top_stones_text;

@@ -22,8 +22,8 @@ use region_cut::cut_territory;
 use std::alloc::{AllocError, Global};
 
 /// A counted region by its lowest point.
-#[derive(Clone, Copy, Debug)]
-pub struct CountedLine {
+#[derive(Clone, Copy)]
+pub(crate) struct CountedLine {
     pub lowest: Point,
     pub colour: Colour,
     pub points: usize,

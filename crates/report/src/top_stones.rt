@@ -18,7 +18,7 @@ use std::alloc::{AllocError, Global};
 const MOST_STONES: u8 = 10;
 
 /// A stone, and up to which komi, in half-points, Black wins after it.
-#[derive(Clone, Copy, Debug, PartialEq, Eq)]
+#[derive(Clone, Copy)]
 pub(crate) struct RatedStone {
     pub threshold: i64,
     pub point: Point,

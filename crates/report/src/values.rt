@@ -1,6 +1,6 @@
 //! The text of `values`.
 
-ghost use Rattle.std.specs.Prelude.{◌≡◌, ◌<◌, ◌*◌, length, IfOk, IfErr, OnOk, string_bytes};
+ghost use Rattle.std.specs.Prelude.{◌≡◌, ◌<◌, ◌*◌, ◌++◌, length, IfOk, IfErr, OnOk};
 ghost use Rattle.short_games.specs.Tree.{tree_at};
 ghost use Rattle.game_lines.specs.Showings.{IsShowing, IsUnshown};
 ghost use Rattle.report.specs.Solution.{solved_line};
@@ -54,21 +54,22 @@ pub(crate) fn show_value(
     }
 }
 
-/// The line of a region by its lowest point, the number of its points and that of its positions.
-pub(crate) fn region_line(
+/// Appends the line of a region by its lowest point, the number of its points and that of its positions.
+pub(crate) fn add_region(
     alloc: Global,
+    text: &mut Text,
     size: Size,
     lowest: Point,
     points: u16,
     positions: u64,
-) -> Result<String, AllocError>
+) -> Result<(), AllocError>
     requires { lowest < size.columns * size.rows }
-    ensures { IfOk result
-        (λ t. string_bytes t ≡ solved_line size.columns lowest points positions) }
+    ensures { OnOk result
+        (text.new ≡ text.old ++ solved_line size.columns lowest points positions) }
 {
     let mut line = String::new(alloc);
     write_region(&mut line, size, lowest, points, positions)?;
-    Ok(line)
+    text.extend_from_slice(line.as_bytes())
 }
 
 /// Appends the lines of a region and of its value.
@@ -86,8 +87,14 @@ fn write_entry(
         × IsUnshown (tree_at store.now report.value))) }
 {
     let showing = show_value(alloc, store, report.value, report.lowest)?;
-    let line = region_line(alloc, size, report.lowest, report.points, report.positions)?;
-    text.extend_from_slice(line.as_bytes())?;
+    add_region(
+        alloc,
+        text,
+        size,
+        report.lowest,
+        report.points,
+        report.positions,
+    )?;
     write_showing(alloc, text, &showing)?;
     Ok(())
 }

@@ -1,4 +1,4 @@
-use Rattle.std.proofs.Common.{◌∙◌, refl}
+use Rattle.std.proofs.Common.{refl}
 use Rattle.report.specs.Solution.{solved_line}
 use Rattle.report.proofs.ValuesLaws.{entry_is}
 use Rattle.report.proofs.cycle_values.write_entry.Goals as goal
@@ -11,5 +11,5 @@ returns-clause-entry c =
       said = both.said;
       are = both.are;
       text = entry_is _ _ _ _ (solved_line c.args.size.columns r.lowest r.points r.positions) _ both.said
-          c.in_ok-extend_from_slice.ensures.ok (c.as_bytes.ensures.value ∙ c.in_ok-line.ensures) both.text refl;
+          c.in_ok-add_region.ensures refl both.text refl;
     }

@@ -1,4 +1,4 @@
-use Rattle.std.proofs.Common.{◌∙◌, ap}
+use Rattle.std.proofs.Common.{ap, refl}
 use Rattle.short_games.specs.Tree.{tree_at}
 use Rattle.game_text.specs.NamedText.{named_text}
 use Rattle.report.specs.Solution.{solved_line}
@@ -16,5 +16,5 @@ returns-clause-entry c =
       drawn = s.drawn;
       shown = s.shown;
       lines = entry_is _ _ _ _ (solved_line c.args.size.columns r.lowest r.points r.positions) _ (game_lines (named_text (tree_at c.args.store.now r.value)) drawn)
-          c.in_ok-extend_from_slice.ensures.ok (c.as_bytes.ensures.value ∙ c.in_ok-line.ensures) c.in_ok-write_showing.ensures (ap (λ x. game_lines x drawn) s.text_is);
+          c.in_ok-add_region.ensures refl c.in_ok-write_showing.ensures (ap (λ x. game_lines x drawn) s.text_is);
     }
