@@ -5,6 +5,7 @@ pub mod ChangeLaws
 pub mod GameLaws
 pub mod KeepingLaws
 pub mod LeastLaws
+pub mod LentLaws
 pub mod MarginLaws
 pub mod OneSumLaws
 pub mod SumLaws

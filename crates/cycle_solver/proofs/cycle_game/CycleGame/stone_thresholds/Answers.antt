@@ -1,10 +1,11 @@
+use Rattle.std.proofs.Common.{[], refl, subst, sym, ◌∙◌, ◌∷◌}
 use mir.Syntax.{w64}
 use Rattle.std.proofs.lemmas.Int.{to_z-of_z}
-use Rattle.std.proofs.Common.{[], ◌∷◌, subst, refl}
 use Rattle.whole_rules.specs.declared.states.Move.TheVariants.{Stone}
 use Rattle.whole_rules.specs.WholeGame.{IsLegal}
 use Rattle.cycle_solver.specs.Thresholds.{AreThresholdsFrom}
 use Rattle.cycle_solver.proofs.SumLaws.{seen_lent}
+use Rattle.cycle_solver.proofs.LentLaws.{answers_back, kept_back, returned}
 use Rattle.cycle_solver.proofs.cycle_game.CycleGame.stone_thresholds.Goals as goal
 
 pub thresholds_after-requires-clause-low : goal.thresholds_after-requires-clause-low
@@ -26,3 +27,33 @@ returns-clause-thresholds c =
       subst (λ k. AreThresholdsFrom c.self.inside.whole k c.self.inside.whole.side (p ∷ []) c.thresholds_after.result)
           (to_z-of_z w64 c.args.komi_halves c.ranges.komi_halves) (c.thresholds_after.ensures.thresholds p change),
     )
+
+pub thresholds_after-requires-clause-change : goal.thresholds_after-requires-clause-change
+thresholds_after-requires-clause-change c = (Stone c.args.point, c.in_ok-change.ensures {u = tt})
+
+pub thresholds_after-requires-clause-fits : goal.thresholds_after-requires-clause-fits
+thresholds_after-requires-clause-fits c = c.self.invariant.1
+
+pub thresholds_after-requires-clause-low_right : goal.thresholds_after-requires-clause-low_right
+thresholds_after-requires-clause-low_right c = answers_back c.self.invariant.2 c.deref_mut.ensures.value
+
+pub thresholds_after-requires-clause-high_right : goal.thresholds_after-requires-clause-high_right
+thresholds_after-requires-clause-high_right c = answers_back c.self.invariant.3 c.deref_mut-2.ensures.value
+
+pub invariant_of-self : goal.invariant_of-self
+invariant_of-self c =
+    let inv = c.self.invariant in
+    let now = c.thresholds_after.ensures in
+    let low = returned c.deref_mut.ensures.value c.deref_mut.ensures.len now.low in
+    let high = returned c.deref_mut-2.ensures.value c.deref_mut-2.ensures.len now.high in (
+      kept_back inv.0 low high,
+      now.fits,
+      answers_back now.low_right (low ∙ sym c.deref_mut.ensures.value),
+      answers_back now.high_right (high ∙ sym c.deref_mut-2.ensures.value),
+    )
+
+pub returns-clause-same : goal.returns-clause-same
+returns-clause-same c = c.self.view_is
+
+pub returns-in_err-change-clause-same : goal.returns-in_err-change-clause-same
+returns-in_err-change-clause-same c = refl
