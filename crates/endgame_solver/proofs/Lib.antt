@@ -14,3 +14,4 @@ pub mod LineLaws
 pub mod MarginLaws
 pub mod AskedLaws
 pub mod NextStoneLaws
+pub mod LentLaws

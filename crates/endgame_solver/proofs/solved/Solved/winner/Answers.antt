@@ -1,4 +1,4 @@
-use Rattle.std.proofs.Common.{ℕ, List, ◌≡◌, ◌↔◌, ◌∙◌, inl, inr, subst, ap}
+use Rattle.std.proofs.Common.{List, ap, inl, inr, refl, subst, ℕ, ◌↔◌, ◌∙◌, ◌≡◌}
 use Rattle.std.proofs.lemmas.Bool.{both_ways}
 use Rattle.go_grid.specs.declared.grid.Colour.{Colour}
 use Rattle.go_grid.specs.Board.{other}
@@ -6,6 +6,7 @@ use Rattle.whole_rules.specs.FirstWinningMove.{IsWinner}
 use Rattle.sum_outcome.specs.Players.{LosesGame}
 use Rattle.sum_outcome.specs.Sums.{sum_tree}
 use Rattle.endgame_solver.specs.Solved.{ArePresent, Solved, balance_units}
+use Rattle.endgame_solver.proofs.LentLaws.{answers_lent, returned}
 use Rattle.endgame_solver.proofs.WinningLaws.{held_lent, mover_wins, winner_by_sum}
 use Rattle.endgame_solver.proofs.solved.Solved.winner.Goals as goal
 
@@ -33,3 +34,24 @@ returns-clause-plain c =
 
 pub returns-clause-sum : goal.returns-clause-sum
 returns-clause-sum c = subst (WinsBySum c.side-side.result) c.self.view_is (winner_by_sum c.self.invariant.0.kept) (returns-clause-plain c)
+
+pub mover_loses-requires-clause-fits : goal.mover_loses-requires-clause-fits
+mover_loses-requires-clause-fits c = c.self.invariant.1
+
+pub invariant_of-self : goal.invariant_of-self
+invariant_of-self c =
+    let inv = c.self.invariant in
+    let back = returned c.deref_mut.ensures.value c.deref_mut.ensures.len c.mover_loses.ensures.same in
+    (held_lent inv.0 refl refl back, c.mover_loses.ensures.fits, answers_lent inv.2 back refl)
+
+pub invariant_of-self-2 : goal.invariant_of-self-2
+invariant_of-self-2 c =
+    let inv = c.self.invariant in
+    let back = returned c.deref_mut.ensures.value c.deref_mut.ensures.len c.mover_loses.ensures.same in
+    (held_lent inv.0 refl refl back, c.mover_loses.ensures.fits, answers_lent inv.2 back refl)
+
+pub returns-then-mover_loses-clause-same : goal.returns-then-mover_loses-clause-same
+returns-then-mover_loses-clause-same c = c.self.view_is
+
+pub returns-clause-same : goal.returns-clause-same
+returns-clause-same c = c.self.view_is
