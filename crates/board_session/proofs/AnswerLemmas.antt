@@ -14,10 +14,12 @@ use Rattle.gtp_words.specs.Loads.Fate.{failed, made, no_load}
 use Rattle.gtp_words.specs.Words.{AreWords, HasId, cleaned}
 use Rattle.board_session.specs.declared.limits.BoardLimits.{BoardLimits}
 use Rattle.board_session.specs.declared.refusal.Refusal.TheVariants.{CannotLoadFile, SyntaxError, UnknownCommand}
+use Rattle.board_session.specs.declared.topic.Analysis.{Analysis}
+use Rattle.board_session.specs.inner.Analysing.{IsReported}
 use Rattle.board_session.specs.inner.Doing.{CanTakeUp, IsDone, IsGenerated, IsSuggested}
 use Rattle.board_session.specs.inner.Obeying.{IsLoadNoted, IsMet, IsObeyed}
 use Rattle.board_session.specs.Orders.{Asked, Asks, BoardOrder}
-use Rattle.board_session.specs.Orders.BoardOrder.{tell, known, ask, boardsize, clear_board, komi, play, genmove, reg_genmove, loadsgf, undo, fixed_handicap, free_handicap, quit}
+use Rattle.board_session.specs.Orders.BoardOrder.{tell, known, ask, boardsize, clear_board, komi, play, genmove, reg_genmove, analyse, loadsgf, undo, fixed_handicap, free_handicap, quit}
 use Rattle.board_session.specs.Orders.Asked.{something, unknown, misfit}
 use Rattle.board_session.specs.Session.{AnswersWords, Does, Meets, Obeys, Said, TakesFile, done, game_limits, is_last, refused, reply_text}
 use Rattle.board_session.specs.States.{BoardState}
@@ -62,6 +64,7 @@ plain_obeys limits files quit s u said h = (refl, h)
 plain_obeys limits files (loadsgf file after) s u said h = absurd h
 plain_obeys limits files (genmove c) s u said h = absurd h
 plain_obeys limits files (reg_genmove c) s u said h = absurd h
+plain_obeys limits files (analyse x) s u said h = absurd h
 
 module _ {E : Type 0} (limits : BoardLimits) (loads : Loads) (s u : BoardState) (a : BoardEngine) (is : record { limits = limits; state = s; loads = loads } ≡ a) where
   pub plain_obeyed : (files : Option Files) (faults : ℕ) (id : List ℕ) (order : BoardOrder) (result : Result (List ℕ) E) → IfOk result (λ reply. IsDone order id s reply u)
@@ -87,6 +90,14 @@ module _ {E : Type 0} (limits : BoardLimits) (loads : Loads) (s u : BoardState) 
       (subst (λ o. IsObeyed files faults faults id o (record { limits = limits; state = s; loads = loads }) reply (record { limits = limits; state = s; loads = loads })) (sym asked)
       (no_load, said, (refl, suggests, refl), text, refl, refl))
   suggested_obeyed files faults id order c asked (Err e) h = tt
+
+  pub reported_obeyed : (files : Option Files) (faults : ℕ) (id : List ℕ) (order : BoardOrder) (x : Analysis) → order ≡ analyse x → (result : Result (List ℕ) E)
+      → IfOk result (IsReported (game_limits limits) x id s) → IfOk result (λ reply. IsObeyed files faults faults id order a reply a)
+  reported_obeyed files faults id order x asked (Ok reply) (said, reports, text) =
+      subst (λ v. IsObeyed files faults faults id order v reply v) is
+      (subst (λ o. IsObeyed files faults faults id o (record { limits = limits; state = s; loads = loads }) reply (record { limits = limits; state = s; loads = loads })) (sym asked)
+      (no_load, said, (refl, reports, refl), text, refl, refl))
+  reported_obeyed files faults id order x asked (Err e) h = tt
 
   pub plain_same : (result : Result (List ℕ) E) → OnErr result (u ≡ s) → OnErr result (record { limits = limits; state = u; loads = loads } ≡ a)
   plain_same (Ok reply) h = tt
@@ -126,6 +137,7 @@ obeyed_grown limits files (free_handicap words) fate s u said h = order_grown (f
 obeyed_grown limits files quit fate s u said h = order_grown quit s u said h.1
 obeyed_grown limits files (genmove c) fate s u said (none, (a, advised, is, follows)) = followed_grown c a s u follows
 obeyed_grown limits files (reg_genmove c) fate s u said h = same_grown s u h.2
+obeyed_grown limits files (analyse x) fate s u said h = same_grown s u h.2
 obeyed_grown limits files (loadsgf file after) fate s u said h = file_grown (load_settings limits.territory after) files file fate s u said h
 
 met_grown : (limits : BoardLimits) (files : Option Files) (asked : Asked) (fate : Fate) (s u : BoardState) (said : Said) → Meets limits files asked fate s said u → length u.moves ≤ length s.moves + 1

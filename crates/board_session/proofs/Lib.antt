@@ -11,3 +11,4 @@ pub mod GeneratedLawLemmas
 pub mod CycleAdviceLemmas
 pub mod CycleLawLemmas
 pub mod SettledLemmas
+pub mod AnalysisLemmas

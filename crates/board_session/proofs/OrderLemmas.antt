@@ -10,7 +10,7 @@ use Rattle.board_session.specs.declared.wanted.Wanted.{Wanted}
 use Rattle.board_session.specs.Generating.{Advice, Follows, board_move, chosen, resigned, unopened}
 use Rattle.board_session.specs.inner.Doing.{IsDone, IsMade}
 use Rattle.board_session.specs.Orders.{BoardOrder}
-use Rattle.board_session.specs.Orders.BoardOrder.{tell, known, ask, boardsize, clear_board, komi, play, genmove, reg_genmove, loadsgf, undo, fixed_handicap, free_handicap, quit}
+use Rattle.board_session.specs.Orders.BoardOrder.{tell, known, ask, boardsize, clear_board, komi, play, genmove, reg_genmove, analyse, loadsgf, undo, fixed_handicap, free_handicap, quit}
 use Rattle.board_session.specs.Session.{Does, PlaysMove, Said, SetsOut, done, refused, reply_text}
 use Rattle.board_session.specs.States.{BoardState, fresh, present}
 
@@ -86,6 +86,7 @@ order_grown quit s u said h = same_grown s u h.1
 order_grown (loadsgf file after) s u said h = absurd h
 order_grown (genmove c) s u said h = absurd h
 order_grown (reg_genmove c) s u said h = absurd h
+order_grown (analyse x) s u said h = absurd h
 
 pub followed_grown : (c : Colour) (a : Advice) (s u : BoardState) → Follows c a s u → length u.moves ≤ length s.moves + 1
 followed_grown c (chosen m) s u (b, makes, is) =

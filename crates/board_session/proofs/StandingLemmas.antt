@@ -9,7 +9,7 @@ use Rattle.board_session.specs.Generating.{Advice, Follows, board_move, chosen, 
 use Rattle.board_session.specs.Laws.{AreMade, MovesStand}
 use Rattle.gtp_words.specs.Loads.Fate.{failed, made as loaded, no_load}
 use Rattle.board_session.specs.Orders.{BoardOrder}
-use Rattle.board_session.specs.Orders.BoardOrder.{tell, known, ask, boardsize, clear_board, komi, play, genmove, reg_genmove, loadsgf, undo, fixed_handicap, free_handicap, quit}
+use Rattle.board_session.specs.Orders.BoardOrder.{tell, known, ask, boardsize, clear_board, komi, play, genmove, reg_genmove, analyse, loadsgf, undo, fixed_handicap, free_handicap, quit}
 use Rattle.board_session.specs.Positions.{MakesMove}
 use Rattle.board_session.specs.Session.{Does, PlaysMove, Said, SetsOut}
 use Rattle.board_session.specs.States.{BoardState, after_moves}
@@ -58,6 +58,7 @@ does quit s u said made h = kept s u made h.1
 does (loadsgf file after) s u said made h = absurd h
 does (genmove c) s u said made h = absurd h
 does (reg_genmove c) s u said made h = absurd h
+does (analyse x) s u said made h = absurd h
 
 -- a generated move
 followed : (c : Colour) (a : Advice) (s u : BoardState) → AreMade s.setup s.moves → Follows c a s u → AreMade u.setup u.moves
@@ -80,6 +81,7 @@ moves_stand limits files (free_handicap words) fate s u said made h = does (free
 moves_stand limits files quit fate s u said made h = does quit s u said made h.1
 moves_stand limits files (genmove c) fate s u said made (none, (a, advised, is, follows)) = followed c a s u made follows
 moves_stand limits files (reg_genmove c) fate s u said made h = kept s u made h.2
+moves_stand limits files (analyse x) fate s u said made h = kept s u made h.2
 moves_stand limits files (loadsgf file after) no_load s u said made h = kept s u made h.1.1
 moves_stand limits files (loadsgf file after) loaded s u said made (text, inl (setup, gives, is, then)) = subst (λ x. AreMade x.setup x.moves) (sym then) tt
 moves_stand limits files (loadsgf file after) loaded s u said made (text, inr (none, (is, same))) = kept s u made same

@@ -6,6 +6,7 @@ pub mod GeneratedLaws
 pub mod Cycles
 pub mod CycleLaws
 pub mod Texts
+pub mod Analysing
 pub mod Handicaps
 pub mod Orders
 pub mod Session

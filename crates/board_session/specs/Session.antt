@@ -23,22 +23,25 @@ use Rattle.board_session.specs.declared.question.Question.{Question}
 use Rattle.board_session.specs.declared.question.Question.TheVariants as question
 use Rattle.board_session.specs.declared.refusal.Refusal.{Refusal}
 use Rattle.board_session.specs.declared.refusal.Refusal.TheVariants.{UnknownCommand, SyntaxError, UnacceptableSize, IllegalMove, CannotLoadFile, CannotUndo, BoardNotEmpty, BadNumberOfStones, BadVertexList}
+use Rattle.board_session.specs.declared.topic.Analysis.{Analysis}
+use Rattle.board_session.specs.Analysing.{Finding, Finds, found, gameless, scoreless}
 use Rattle.board_session.specs.Cycles.{TellsIn}
 use Rattle.board_session.specs.Generating.{Advice, Follows, board_move, chosen, resigned, unopened}
 use Rattle.board_session.specs.Handicaps.{CannotPut, HasPlaces, IsBare, IsSomeAstray, NamePoints, PutsStones, fixed_points}
 use Rattle.board_session.specs.Orders.{BoardOrder, Asked, Asks, command_word}
-use Rattle.board_session.specs.Orders.BoardOrder.{tell, known, ask, boardsize, clear_board, komi, play, genmove, reg_genmove, loadsgf, undo, fixed_handicap, free_handicap, quit}
+use Rattle.board_session.specs.Orders.BoardOrder.{tell, known, ask, boardsize, clear_board, komi, play, genmove, reg_genmove, analyse, loadsgf, undo, fixed_handicap, free_handicap, quit}
 use Rattle.board_session.specs.Orders.Asked.{something, unknown, misfit}
 use Rattle.board_session.specs.Positions.{IsIllegal, MakesMove, move_for}
 use Rattle.board_session.specs.States.{BoardState, IsBeforeLast, fresh, of_setup, present, with_move, with_stones}
 use Rattle.board_session.specs.Tallies.{number_of}
 use Rattle.board_session.specs.Texts.{history_text, move_text, position_text, stones_below, vertices_text}
 
--- what is said: a text, or why the order is refused, or in words why a position opens no game
+-- what is said: a text, or why the order is refused, or in words why a position opens no game, or why it has no score
 pub data Said : Type 0 where
   done : List ℕ → Said
   refused : Refusal → Said
   unsolved : List ℕ → Said
+  unscored : List ℕ → Said
 
 -- the text of a refusal
 abbrev pub refusal_text : Refusal → List ℕ
@@ -57,12 +60,19 @@ abbrev pub reply_text : List ℕ → Said → List ℕ
 reply_text id (done text) = signed_text (codes "=") id text
 reply_text id (refused why) = signed_text (codes "?") id (refusal_text why)
 reply_text id (unsolved words) = signed_text (codes "?") id (codes "cannot solve: " ++ words)
+reply_text id (unscored words) = signed_text (codes "?") id (codes "cannot score: " ++ words)
 
 -- what is said to a colour that asks for a move, on a board of the size
 abbrev pub advice_said : ℕ → ℕ → Advice → Said
 advice_said columns rows (chosen m) = done (move_text columns rows (board_move m))
 advice_said columns rows resigned = done (codes "resign")
 advice_said columns rows (unopened words) = unsolved words
+
+-- what is said on what an analysis finds
+abbrev pub finding_said : Finding → Said
+finding_said (found text) = done text
+finding_said (gameless words) = unsolved words
+finding_said (scoreless words) = unscored words
 
 -- the limits of a game, in which there is no tax
 abbrev pub game_limits : BoardLimits → Limits
@@ -75,6 +85,10 @@ Generates cycles limits c s said u = (a : Advice) × TellsIn cycles limits s c a
 -- the engine's move is said, if there is one
 abbrev pub Suggests : Bool → Limits → Colour → BoardState → Said → Type 0
 Suggests cycles limits c s said = (a : Advice) × TellsIn cycles limits s c a × (said ≡ advice_said (present s).board.columns (present s).board.rows a)
+
+-- what the analysis finds is said
+abbrev pub Reports : Limits → Analysis → BoardState → Said → Type 0
+Reports limits x s said = (finding : Finding) × Finds limits x s finding × (said ≡ finding_said finding)
 
 -- the text of a part of the state
 abbrev pub answer_text : Question → BoardState → List ℕ
@@ -132,7 +146,7 @@ TakesFree words s said u =
     ⊎ ((IsBare g × IsSomeAstray g.columns g.rows words × RefusesWith BadVertexList s said u)
     ⊎ (IsBare g × ((points : List ℕ) × NamePoints g.columns g.rows words points × SetsOut [] BadVertexList points s said u)))
 
--- what an order that asks for neither a file nor a move does to the state, and what is said
+-- what an order that asks for neither a file nor the solver does to the state, and what is said
 abbrev pub Does : BoardOrder → BoardState → Said → BoardState → Type 0
 Does (tell text) s said u = (said ≡ done text) × (u ≡ s)
 Does (known word) s said u = (text : List ℕ) × SaysWhetherKnown word text × (said ≡ done text) × (u ≡ s)
@@ -148,6 +162,7 @@ Does quit s said u = (said ≡ done []) × (u ≡ s)
 Does (loadsgf file after) s said u = ⊥
 Does (genmove c) s said u = ⊥
 Does (reg_genmove c) s said u = ⊥
+Does (analyse x) s said u = ⊥
 
 -- the position of a file is taken up where it gives one, and the colour to move is said, as GNU Go does; a name that isn't UTF-8 isn't asked
 -- for
@@ -163,6 +178,7 @@ abbrev pub Obeys : BoardLimits → Option Files → BoardOrder → Fate → Boar
 Obeys limits files (loadsgf file after) fate s said u = TakesFile (load_settings limits.territory after) files file fate s said u
 Obeys limits files (genmove c) fate s said u = (fate ≡ no_load) × Generates limits.cycles (game_limits limits) c s said u
 Obeys limits files (reg_genmove c) fate s said u = (fate ≡ no_load) × Suggests limits.cycles (game_limits limits) c s said × (u ≡ s)
+Obeys limits files (analyse x) fate s said u = (fate ≡ no_load) × Reports (game_limits limits) x s said × (u ≡ s)
 Obeys limits files order fate s said u = (fate ≡ no_load) × Does order s said u
 
 -- what is done on what the words ask for

@@ -4,3 +4,4 @@ pub mod Cycles
 pub mod Doing
 pub mod Obeying
 pub mod Viewed
+pub mod Analysing

@@ -45,7 +45,11 @@ pub(crate) fn board_move(chosen: Move) -> BoardMove
 }
 
 /// The words on a board that isn't settled, by its first point that is not.
-fn unsettled_words(alloc: Global, board: &Board, point: Point) -> Result<String, AllocError>
+pub(crate) fn unsettled_words(
+    alloc: Global,
+    board: &Board,
+    point: Point,
+) -> Result<String, AllocError>
     requires { point < length board.now.cells }
     ensures { IfOk result (λ text. string_bytes text ≡ unsettled_words board.now point) }
 {

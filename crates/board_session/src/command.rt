@@ -1,14 +1,16 @@
 //! The commands.
 
 ghost use Rattle.std.specs.Prelude.{◌≡◌, ◌≢◌, IfSome, IfNone};
-ghost use Rattle.board_session.specs.Orders.{command_word};
+ghost use Rattle.board_session.specs.Orders.{analysis_word, basic_word, command_word};
+ghost use Rattle.board_session.specs.declared.command.AnalysisCommand.{AnalysisCommand};
+ghost use Rattle.board_session.specs.declared.command.BasicCommand.{BasicCommand};
 ghost use Rattle.board_session.specs.declared.command.Command.{Command};
 
 use std::str;
 
-/// The commands.
+/// The commands that ask for no analysis.
 #[derive(Clone, Copy, Debug, PartialEq, Eq)]
-pub(crate) enum Command {
+pub(crate) enum BasicCommand {
     ProtocolVersion,
     Name,
     Version,
@@ -37,38 +39,94 @@ pub(crate) enum Command {
     TimeLeft,
 }
 
-fn named(word: &str) -> Option<Command>
-    ensures some { IfSome result (λ command. word.now ≡ command_word command) }
-    ensures none { IfNone result ((command : Command) → word.now ≢ command_word command) }
+/// The commands that ask for an analysis.
+#[derive(Clone, Copy, Debug, PartialEq, Eq)]
+pub(crate) enum AnalysisCommand {
+    TopMovesBlack,
+    TopMovesWhite,
+    FinalScore,
+    EstimateScore,
+    FinalStatusList,
+    Margin,
+    Moves,
+    Line,
+    /// The analyses that GoGui offers.
+    AnalyzeCommands,
+}
+
+/// The commands.
+#[derive(Clone, Copy, Debug, PartialEq, Eq)]
+pub(crate) enum Command {
+    Basic(BasicCommand),
+    Analyse(AnalysisCommand),
+}
+
+/// The command that a word names, of those that ask for no analysis.
+fn read_basic(word: &str) -> Option<BasicCommand>
+    ensures some { IfSome result (λ command. word.now ≡ basic_word command) }
+    ensures none { IfNone result ((command : BasicCommand) → word.now ≢ basic_word command) }
 {
     match word {
-        "protocol_version" => Some(Command::ProtocolVersion),
-        "name" => Some(Command::Name),
-        "version" => Some(Command::Version),
-        "known_command" => Some(Command::KnownCommand),
-        "list_commands" => Some(Command::ListCommands),
-        "quit" => Some(Command::Quit),
-        "boardsize" => Some(Command::BoardSize),
-        "clear_board" => Some(Command::ClearBoard),
-        "komi" => Some(Command::Komi),
-        "play" => Some(Command::Play),
-        "genmove" => Some(Command::GenMove),
-        "reg_genmove" => Some(Command::RegGenMove),
-        "loadsgf" => Some(Command::LoadSgf),
-        "undo" => Some(Command::Undo),
-        "showboard" => Some(Command::ShowBoard),
-        "list_stones" => Some(Command::ListStones),
-        "captures" => Some(Command::Captures),
-        "move_history" => Some(Command::MoveHistory),
-        "query_boardsize" => Some(Command::QueryBoardSize),
-        "get_komi" => Some(Command::GetKomi),
-        "get_handicap" => Some(Command::GetHandicap),
-        "fixed_handicap" => Some(Command::FixedHandicap),
-        "set_free_handicap" => Some(Command::SetFreeHandicap),
-        "level" => Some(Command::Level),
-        "time_settings" => Some(Command::TimeSettings),
-        "time_left" => Some(Command::TimeLeft),
+        "protocol_version" => Some(BasicCommand::ProtocolVersion),
+        "name" => Some(BasicCommand::Name),
+        "version" => Some(BasicCommand::Version),
+        "known_command" => Some(BasicCommand::KnownCommand),
+        "list_commands" => Some(BasicCommand::ListCommands),
+        "quit" => Some(BasicCommand::Quit),
+        "boardsize" => Some(BasicCommand::BoardSize),
+        "clear_board" => Some(BasicCommand::ClearBoard),
+        "komi" => Some(BasicCommand::Komi),
+        "play" => Some(BasicCommand::Play),
+        "genmove" => Some(BasicCommand::GenMove),
+        "reg_genmove" => Some(BasicCommand::RegGenMove),
+        "loadsgf" => Some(BasicCommand::LoadSgf),
+        "undo" => Some(BasicCommand::Undo),
+        "showboard" => Some(BasicCommand::ShowBoard),
+        "list_stones" => Some(BasicCommand::ListStones),
+        "captures" => Some(BasicCommand::Captures),
+        "move_history" => Some(BasicCommand::MoveHistory),
+        "query_boardsize" => Some(BasicCommand::QueryBoardSize),
+        "get_komi" => Some(BasicCommand::GetKomi),
+        "get_handicap" => Some(BasicCommand::GetHandicap),
+        "fixed_handicap" => Some(BasicCommand::FixedHandicap),
+        "set_free_handicap" => Some(BasicCommand::SetFreeHandicap),
+        "level" => Some(BasicCommand::Level),
+        "time_settings" => Some(BasicCommand::TimeSettings),
+        "time_left" => Some(BasicCommand::TimeLeft),
         _ => None,
+    }
+}
+
+/// The command that a word names, of those that ask for an analysis.
+fn read_analysis(word: &str) -> Option<AnalysisCommand>
+    ensures some { IfSome result (λ command. word.now ≡ analysis_word command) }
+    ensures none { IfNone result ((command : AnalysisCommand) → word.now ≢ analysis_word command) }
+{
+    match word {
+        "top_moves_black" => Some(AnalysisCommand::TopMovesBlack),
+        "top_moves_white" => Some(AnalysisCommand::TopMovesWhite),
+        "final_score" => Some(AnalysisCommand::FinalScore),
+        "estimate_score" => Some(AnalysisCommand::EstimateScore),
+        "final_status_list" => Some(AnalysisCommand::FinalStatusList),
+        "gdsolve-margin" => Some(AnalysisCommand::Margin),
+        "gdsolve-moves" => Some(AnalysisCommand::Moves),
+        "gdsolve-line" => Some(AnalysisCommand::Line),
+        "gogui-analyze_commands" => Some(AnalysisCommand::AnalyzeCommands),
+        _ => None,
+    }
+}
+
+/// The command that a name is.
+fn read_name(name: &str) -> Option<Command>
+    ensures some { IfSome result (λ command. name.now ≡ command_word command) }
+    ensures none { IfNone result ((command : Command) → name.now ≢ command_word command) }
+{
+    if let Some(command) = read_basic(name) {
+        return Some(Command::Basic(command));
+    }
+    match read_analysis(name) {
+        Some(command) => Some(Command::Analyse(command)),
+        None => None,
     }
 }
 
@@ -79,7 +137,7 @@ pub(crate) fn read_command(word: &[u8]) -> Option<Command>
     ensures none { IfNone result ((command : Command) → word.now ≢ command_word command) }
 {
     match str::from_utf8(word) {
-        Ok(name) => named(name),
+        Ok(name) => read_name(name),
         Err(_) => None,
     }
 }

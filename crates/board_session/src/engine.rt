@@ -166,6 +166,10 @@ impl BoardEngine {
                 self.session
                     .suggest(id, colour, &limits, self.limits.cycles, steps)
             }
+            Request::Analyse(analysis) => {
+                let limits = self.limits.of_game();
+                self.session.report(id, analysis, &limits, steps)
+            }
             plain => self.session.obey(id, plain),
         }
     }

@@ -2,6 +2,7 @@
 #![tactic(auto)]
 
 mod advice;
+mod analysis;
 mod answers;
 mod board_text;
 mod command;
@@ -17,7 +18,9 @@ mod question;
 mod refusal;
 mod request;
 mod session;
+mod statuses;
 mod texts;
+mod topic;
 mod wanted;
 
 pub use engine::{Answer, BoardEngine};

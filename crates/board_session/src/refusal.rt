@@ -1,7 +1,7 @@
 //! Replies.
 
 ghost use Rattle.std.specs.Prelude.{◌≡◌, ◌++◌, IfOk, codes, string_bytes};
-ghost use Rattle.board_session.specs.Session.{done, refused, unsolved, refusal_text, reply_text};
+ghost use Rattle.board_session.specs.Session.{done, refused, unscored, unsolved, refusal_text, reply_text};
 
 use gtp_words::compose;
 use item_list::ItemList;
@@ -62,6 +62,25 @@ pub(crate) fn refuse_unsolved(
     ensures { IfOk result (λ reply. reply ≡ reply_text id.now (unsolved words.now)) }
 {
     let text = unsolved_text(alloc, words)?;
+    compose(alloc, b"?", id, text.as_bytes())
+}
+
+/// The text of a refusal where a position has no score, in words.
+fn unscored_text(alloc: Global, words: &str) -> Result<String, AllocError>
+    ensures { IfOk result (λ text. string_bytes text ≡ codes "cannot score: " ++ words.now) }
+{
+    format!(in alloc; "cannot score: {words}")
+}
+
+/// The reply where a position has no score, in words.
+pub(crate) fn refuse_unscored(
+    alloc: Global,
+    id: &[u8],
+    words: &str,
+) -> Result<ItemList<u8>, AllocError>
+    ensures { IfOk result (λ reply. reply ≡ reply_text id.now (unscored words.now)) }
+{
+    let text = unscored_text(alloc, words)?;
     compose(alloc, b"?", id, text.as_bytes())
 }
 

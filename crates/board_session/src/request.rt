@@ -2,12 +2,13 @@
 
 ghost use Rattle.std.specs.Prelude.{◌≡◌, ◌≤◌, ℕ, map, IfSome, IfNone};
 ghost use Rattle.board_words.specs.Numbers.{IsNumberWord};
-ghost use Rattle.board_session.specs.Orders.{Asks, BoardOrder, FitsArguments, FitsAlone, FitsFew, FitsOne, FitsThree, FitsTwo, moves_before};
+ghost use Rattle.board_session.specs.Orders.{AnalysesAlone, AnalysesOne, Asks, BoardOrder, FitsAlone, FitsAnalysis, FitsArguments, FitsBasic, FitsFew, FitsOne, FitsThree, FitsTwo, moves_before};
 ghost use Rattle.board_session.specs.inner.Doing.{AsksInRange, HasKomiInRange};
 ghost use Rattle.board_session.specs.inner.Viewed.{asked_of, order_of};
 
-use crate::command::{Command, read_command};
+use crate::command::{AnalysisCommand, BasicCommand, Command, read_command};
 use crate::question::Question;
+use crate::topic::{Analysis, Topic, read_status};
 use crate::wanted::{Wanted, read_wanted};
 use board_words::read_number;
 use go_grid::Colour;
@@ -16,7 +17,11 @@ use sgf_go::read_komi;
 
 /// The names of all commands, one a line.
 const ALL_COMMANDS: &[u8] =
-    b"protocol_version\nname\nversion\nknown_command\nlist_commands\nquit\nboardsize\nclear_board\nkomi\nplay\ngenmove\nreg_genmove\nloadsgf\nundo\nshowboard\nlist_stones\ncaptures\nmove_history\nquery_boardsize\nget_komi\nget_handicap\nfixed_handicap\nset_free_handicap\nlevel\ntime_settings\ntime_left";
+    b"protocol_version\nname\nversion\nknown_command\nlist_commands\nquit\nboardsize\nclear_board\nkomi\nplay\ngenmove\nreg_genmove\nloadsgf\nundo\nshowboard\nlist_stones\ncaptures\nmove_history\nquery_boardsize\nget_komi\nget_handicap\nfixed_handicap\nset_free_handicap\nlevel\ntime_settings\ntime_left\ntop_moves_black\ntop_moves_white\nfinal_score\nestimate_score\nfinal_status_list\ngdsolve-margin\ngdsolve-moves\ngdsolve-line\ngogui-analyze_commands";
+
+/// The analyses that GoGui offers, a line each: the type of the reply, a label and the command.
+const ANALYZE_COMMANDS: &[u8] =
+    b"pspairs/Best stones of Black/top_moves_black\npspairs/Best stones of White/top_moves_white\nstring/Margin/gdsolve-margin %c\nstring/Moves/gdsolve-moves %c\nstring/Line of play/gdsolve-line %c\nstring/Score/final_score\nplist/Stones that live/final_status_list alive\nplist/Stones that are dead/final_status_list dead";
 
 /// The greatest number of a file's move.
 const LAST_MOVE: u64 = 1_000_000;
@@ -35,6 +40,7 @@ pub(crate) enum Request<'a, 'b> {
     Play(Colour, Wanted),
     GenMove(Colour),
     RegGenMove(Colour),
+    Analyse(Analysis),
     /// A file, and how many of its moves are replayed, if not all.
     LoadSgf(&'a [u8], Option<u32>),
     Undo,
@@ -54,49 +60,49 @@ pub(crate) enum Asked<'a, 'b> {
 }
 
 /// The request of a command without an argument.
-fn alone<'a, 'b>(command: Command) -> Option<Request<'a, 'b>>
+fn alone<'a, 'b>(command: BasicCommand) -> Option<Request<'a, 'b>>
     ensures some { IfSome result (λ request. FitsAlone command (order_of request)) }
     ensures range { IfSome result (λ request. HasKomiInRange (order_of request)) }
     ensures none { IfNone result ((order : BoardOrder) → ¬ FitsAlone command order) }
 {
     match command {
-        Command::ProtocolVersion => Some(Request::Tell(b"2")),
-        Command::Name => Some(Request::Tell(b"gdsolve")),
-        Command::Version => Some(Request::Tell(b"1")),
-        Command::ListCommands => Some(Request::Tell(ALL_COMMANDS)),
-        Command::Quit => Some(Request::Quit),
-        Command::ClearBoard => Some(Request::ClearBoard),
-        Command::Undo => Some(Request::Undo),
-        Command::ShowBoard => Some(Request::Ask(Question::Board)),
-        Command::MoveHistory => Some(Request::Ask(Question::History)),
-        Command::QueryBoardSize => Some(Request::Ask(Question::Size)),
-        Command::GetKomi => Some(Request::Ask(Question::Komi)),
-        Command::GetHandicap => Some(Request::Ask(Question::Handicap)),
+        BasicCommand::ProtocolVersion => Some(Request::Tell(b"2")),
+        BasicCommand::Name => Some(Request::Tell(b"gdsolve")),
+        BasicCommand::Version => Some(Request::Tell(b"1")),
+        BasicCommand::ListCommands => Some(Request::Tell(ALL_COMMANDS)),
+        BasicCommand::Quit => Some(Request::Quit),
+        BasicCommand::ClearBoard => Some(Request::ClearBoard),
+        BasicCommand::Undo => Some(Request::Undo),
+        BasicCommand::ShowBoard => Some(Request::Ask(Question::Board)),
+        BasicCommand::MoveHistory => Some(Request::Ask(Question::History)),
+        BasicCommand::QueryBoardSize => Some(Request::Ask(Question::Size)),
+        BasicCommand::GetKomi => Some(Request::Ask(Question::Komi)),
+        BasicCommand::GetHandicap => Some(Request::Ask(Question::Handicap)),
         _ => None,
     }
 }
 
 /// The request of a command with one argument.
-fn with_one<'a, 'b>(command: Command, word: &'a [u8]) -> Option<Request<'a, 'b>>
+fn with_one<'a, 'b>(command: BasicCommand, word: &'a [u8]) -> Option<Request<'a, 'b>>
     ensures some { IfSome result (λ request. FitsOne command word.now (order_of request)) }
     ensures range { IfSome result (λ request. HasKomiInRange (order_of request)) }
     ensures none { IfNone result ((order : BoardOrder) → ¬ FitsOne command word.now order) }
 {
     match command {
-        Command::KnownCommand => Some(Request::Known(word)),
-        Command::BoardSize => Some(Request::BoardSize(read_number(word)?)),
-        Command::Komi => Some(Request::Komi(read_komi(word)?)),
-        Command::GenMove => Some(Request::GenMove(read_colour(word)?)),
-        Command::RegGenMove => Some(Request::RegGenMove(read_colour(word)?)),
-        Command::ListStones => Some(Request::Ask(Question::Stones(read_colour(word)?))),
-        Command::Captures => Some(Request::Ask(Question::Captures(read_colour(word)?))),
-        Command::FixedHandicap => Some(Request::FixedHandicap(read_number(word)?)),
-        Command::LoadSgf => Some(Request::LoadSgf(word, None)),
-        Command::Level => {
+        BasicCommand::KnownCommand => Some(Request::Known(word)),
+        BasicCommand::BoardSize => Some(Request::BoardSize(read_number(word)?)),
+        BasicCommand::Komi => Some(Request::Komi(read_komi(word)?)),
+        BasicCommand::GenMove => Some(Request::GenMove(read_colour(word)?)),
+        BasicCommand::RegGenMove => Some(Request::RegGenMove(read_colour(word)?)),
+        BasicCommand::ListStones => Some(Request::Ask(Question::Stones(read_colour(word)?))),
+        BasicCommand::Captures => Some(Request::Ask(Question::Captures(read_colour(word)?))),
+        BasicCommand::FixedHandicap => Some(Request::FixedHandicap(read_number(word)?)),
+        BasicCommand::LoadSgf => Some(Request::LoadSgf(word, None)),
+        BasicCommand::Level => {
             let _level = read_number(word)?;
             Some(Request::Tell(b""))
         }
-        Command::Undo => {
+        BasicCommand::Undo => {
             let _number = read_number(word)?;
             Some(Request::Undo)
         }
@@ -127,7 +133,11 @@ fn read_moves(word: &[u8]) -> Option<u32>
 }
 
 /// The request of a command with two arguments.
-fn with_two<'a, 'b>(command: Command, first: &'a [u8], second: &[u8]) -> Option<Request<'a, 'b>>
+fn with_two<'a, 'b>(
+    command: BasicCommand,
+    first: &'a [u8],
+    second: &[u8],
+) -> Option<Request<'a, 'b>>
     ensures some { IfSome result (λ request. FitsTwo command first.now second.now
         (order_of request)) }
     ensures range { IfSome result (λ request. HasKomiInRange (order_of request)) }
@@ -135,15 +145,15 @@ fn with_two<'a, 'b>(command: Command, first: &'a [u8], second: &[u8]) -> Option<
         → ¬ FitsTwo command first.now second.now order) }
 {
     match command {
-        Command::Play => Some(Request::Play(read_colour(first)?, read_wanted(second)?)),
-        Command::LoadSgf => Some(Request::LoadSgf(first, moves_before(read_moves(second)?))),
+        BasicCommand::Play => Some(Request::Play(read_colour(first)?, read_wanted(second)?)),
+        BasicCommand::LoadSgf => Some(Request::LoadSgf(first, moves_before(read_moves(second)?))),
         _ => None,
     }
 }
 
 /// The request of a command with three arguments.
 fn with_three<'a, 'b>(
-    command: Command,
+    command: BasicCommand,
     first: &[u8],
     second: &[u8],
     third: &[u8],
@@ -155,13 +165,13 @@ fn with_three<'a, 'b>(
         → ¬ FitsThree command first.now second.now third.now order) }
 {
     match command {
-        Command::TimeSettings => {
+        BasicCommand::TimeSettings => {
             let _main = read_number(first)?;
             let _extra = read_number(second)?;
             let _stones = read_number(third)?;
             Some(Request::Tell(b""))
         }
-        Command::TimeLeft => {
+        BasicCommand::TimeLeft => {
             let _colour = read_colour(first)?;
             let _time = read_number(second)?;
             let _stones = read_number(third)?;
@@ -172,7 +182,7 @@ fn with_three<'a, 'b>(
 }
 
 /// The request of a command with at most three arguments.
-fn with_few<'a, 'b>(command: Command, arguments: &'b [&'a [u8]]) -> Option<Request<'a, 'b>>
+fn with_few<'a, 'b>(command: BasicCommand, arguments: &'b [&'a [u8]]) -> Option<Request<'a, 'b>>
     ensures some { IfSome result (λ request. FitsFew command (map (λ w. w.now) arguments.now)
         (order_of request)) }
     ensures range { IfSome result (λ request. HasKomiInRange (order_of request)) }
@@ -188,6 +198,78 @@ fn with_few<'a, 'b>(command: Command, arguments: &'b [&'a [u8]]) -> Option<Reque
     }
 }
 
+/// The request of a command that asks for no analysis, with arguments.
+fn fit_basic<'a, 'b>(command: BasicCommand, arguments: &'b [&'a [u8]]) -> Option<Request<'a, 'b>>
+    ensures some { IfSome result (λ request.
+        FitsBasic command (map (λ w. w.now) arguments.now) (order_of request)) }
+    ensures range { IfSome result (λ request. HasKomiInRange (order_of request)) }
+    ensures none { IfNone result ((order : BoardOrder)
+        → ¬ FitsBasic command (map (λ w. w.now) arguments.now) order) }
+{
+    match command {
+        BasicCommand::SetFreeHandicap => {
+            if arguments.len() < 2 {
+                return None;
+            }
+            Some(Request::FreeHandicap(arguments))
+        }
+        _ => with_few(command, arguments),
+    }
+}
+
+/// The request of a command that asks for an analysis without an argument.
+fn analysis_alone<'a, 'b>(command: AnalysisCommand) -> Option<Request<'a, 'b>>
+    ensures some { IfSome result (λ request. AnalysesAlone command (order_of request)) }
+    ensures range { IfSome result (λ request. HasKomiInRange (order_of request)) }
+    ensures none { IfNone result ((order : BoardOrder) → ¬ AnalysesAlone command order) }
+{
+    let (topic, colour) = match command {
+        AnalysisCommand::TopMovesBlack => (Topic::Best, Colour::Black),
+        AnalysisCommand::TopMovesWhite => (Topic::Best, Colour::White),
+        AnalysisCommand::FinalScore | AnalysisCommand::EstimateScore => (
+            Topic::Score,
+            Colour::Black,
+        ),
+        AnalysisCommand::AnalyzeCommands => return Some(Request::Tell(ANALYZE_COMMANDS)),
+        _ => return None,
+    };
+    Some(Request::Analyse(Analysis::Game(topic, colour)))
+}
+
+/// The request of a command that asks for an analysis, with one argument.
+fn analysis_with_one<'a, 'b>(command: AnalysisCommand, word: &'a [u8]) -> Option<Request<'a, 'b>>
+    ensures some { IfSome result (λ request. AnalysesOne command word.now (order_of request)) }
+    ensures range { IfSome result (λ request. HasKomiInRange (order_of request)) }
+    ensures none { IfNone result ((order : BoardOrder) → ¬ AnalysesOne command word.now order) }
+{
+    let analysis = match command {
+        AnalysisCommand::Margin => Analysis::Game(Topic::Margin, read_colour(word)?),
+        AnalysisCommand::Moves => Analysis::Game(Topic::Moves, read_colour(word)?),
+        AnalysisCommand::Line => Analysis::Game(Topic::Line, read_colour(word)?),
+        AnalysisCommand::FinalStatusList => Analysis::Stones(read_status(word)?),
+        _ => return None,
+    };
+    Some(Request::Analyse(analysis))
+}
+
+/// The request of a command that asks for an analysis, with arguments.
+fn fit_analysis<'a, 'b>(
+    command: AnalysisCommand,
+    arguments: &'b [&'a [u8]],
+) -> Option<Request<'a, 'b>>
+    ensures some { IfSome result (λ request.
+        FitsAnalysis command (map (λ w. w.now) arguments.now) (order_of request)) }
+    ensures range { IfSome result (λ request. HasKomiInRange (order_of request)) }
+    ensures none { IfNone result ((order : BoardOrder)
+        → ¬ FitsAnalysis command (map (λ w. w.now) arguments.now) order) }
+{
+    match arguments {
+        [] => analysis_alone(command),
+        [word] => analysis_with_one(command, word),
+        _ => None,
+    }
+}
+
 /// The request of a command with arguments.
 fn fit<'a, 'b>(command: Command, arguments: &'b [&'a [u8]]) -> Option<Request<'a, 'b>>
     ensures some { IfSome result (λ request.
@@ -197,13 +279,8 @@ fn fit<'a, 'b>(command: Command, arguments: &'b [&'a [u8]]) -> Option<Request<'a
         → ¬ FitsArguments command (map (λ w. w.now) arguments.now) order) }
 {
     match command {
-        Command::SetFreeHandicap => {
-            if arguments.len() < 2 {
-                return None;
-            }
-            Some(Request::FreeHandicap(arguments))
-        }
-        _ => with_few(command, arguments),
+        Command::Basic(command) => fit_basic(command, arguments),
+        Command::Analyse(command) => fit_analysis(command, arguments),
     }
 }
 

@@ -305,7 +305,7 @@ impl BoardSession {
         }
     }
 
-    /// Does what a request that asks for neither a file nor a move says.
+    /// Does what a request that asks for neither a file nor the solver says.
     pub(crate) fn obey(
         &mut self,
         id: &[u8],
@@ -333,10 +333,11 @@ impl BoardSession {
             }
             Request::Komi(halves) => self.set_komi(id, halves),
             Request::Play(colour, wanted) => self.play(id, colour, wanted),
-            // The engine loads files and asks for moves.
+            // The engine loads files and asks the solver.
             Request::LoadSgf(_, _) => unreachable!(),
             Request::GenMove(_) => unreachable!(),
             Request::RegGenMove(_) => unreachable!(),
+            Request::Analyse(_) => unreachable!(),
             Request::Undo => self.take_back(id),
             Request::FixedHandicap(number) => self.set_fixed(id, number),
             Request::FreeHandicap(words) => self.set_free(id, words),

@@ -44,6 +44,32 @@ const KOS_TEXT: &str =
     "= black\n\n= F2\n\n= F2\n\n= E2\n\n= F2\n\n= \n\n= E2\n\n= 1\n\n= \n\n= PASS\n\n= black\n\n= PASS\n\n= F3\n\n\
     = \n\n= black PASS\n\n= black\n\n= F2\n\n= PASS\n\n= \n\n= \n\n? cannot solve: purse\n\n";
 
+/// Analyses, with points as the protocol names them: of a corridor of two points, when it is closed and White has passed, with another komi, and of a captive.
+const ANALYSED: &[u8] =
+    b"loadsgf d\ntop_moves_black\n7 gdsolve-margin b\ngdsolve-moves b\ngdsolve-line w\nfinal_score\nfinal_status_list alive\n\
+    play b F2\nplay w pass\nestimate_score\ntop_moves_white\nkomi 6.5\nfinal_score\ngdsolve-moves w\nkomi 2\nfinal_score\nloadsgf g\n\
+    final_status_list dead\nfinal_status_list seki\n";
+
+const ANALYSED_TEXT: &str =
+    "= black\n\n= F2 1 E2 -0.5\n\n=7 side black\nkomi 0\nwinner black\nblack first 1\nwhite first 0\n\n\
+    = side black\nkomi 0\nwinner black\nstone E2 loses -0.5\nstone F2 wins 1\nspend loses\n\n\
+    = side white\nkomi 0\nwinner black\nthreshold 0\nline 2 white:F2 black:E2\n\n? cannot score: play left at F2\n\n\
+    = B3 D3 E3 F3 G3 J3 A2 B2 C2 D2 G2 H2 J2 K2 A1 B1 C1 D1 E1 F1 G1 H1 J1 K1\n\n= \n\n= \n\n= B+2\n\n= \n\n= \n\n= W+4.5\n\n\
+    = side white\nkomi 6.5\nwinner white\nspend wins\nhalf wins\n\n= \n\n= 0\n\n= black\n\n= B2\n\n= \n\n";
+
+/// Analyses that don't fit, of a position without a game, and what GoGui is offered.
+const UNFIT: &[u8] =
+    b"top_moves_black b\ngdsolve-margin\nfinal_status_list x\nfinal_score\ngdsolve-line w\nloadsgf e\ntop_moves_white\nfinal_score\n\
+    known_command final_score\ngogui-analyze_commands\n";
+
+const UNFIT_TEXT: &str =
+    "? syntax error\n\n? syntax error\n\n? syntax error\n\n? cannot score: region A19 points 361\n\n\
+    ? cannot solve: region A19 points 361\n\n= black\n\n? cannot solve: cycle E2 1 black:F2 white:E2 black:F2\n\n\
+    ? cannot score: cycle E2 1 black:F2 white:E2 black:F2\n\n= true\n\n\
+    = pspairs/Best stones of Black/top_moves_black\npspairs/Best stones of White/top_moves_white\n\
+    string/Margin/gdsolve-margin %c\nstring/Moves/gdsolve-moves %c\nstring/Line of play/gdsolve-line %c\nstring/Score/final_score\n\
+    plist/Stones that live/final_status_list alive\nplist/Stones that are dead/final_status_list dead\n\n";
+
 const NO_FIRST_LOAD: Failing = Failing {
     load: 0,
     ..NOTHING_FAILS
@@ -54,7 +80,7 @@ const NO_SECOND_READ: Failing = Failing {
     ..NOTHING_FAILS
 };
 
-const SESSIONS: [FailingRow; 8] = [
+const SESSIONS: [FailingRow; 10] = [
     (
         "gtp~--board~yes",
         PLAYED,
@@ -70,6 +96,22 @@ const SESSIONS: [FailingRow; 8] = [
         NOTHING_FAILS,
         Status::Done,
         PLACED_TEXT,
+    ),
+    (
+        "gtp~--board~yes",
+        ANALYSED,
+        2_000,
+        NOTHING_FAILS,
+        Status::Done,
+        ANALYSED_TEXT,
+    ),
+    (
+        "gtp~--board~yes",
+        UNFIT,
+        2_000,
+        NOTHING_FAILS,
+        Status::Done,
+        UNFIT_TEXT,
     ),
     (
         "gtp~--board~yes",

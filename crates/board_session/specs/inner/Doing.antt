@@ -15,7 +15,7 @@ use Rattle.board_session.specs.declared.refusal.Refusal.{Refusal}
 use Rattle.board_session.specs.declared.wanted.Wanted.{Wanted}
 use Rattle.board_session.specs.Orders.{Asked, BoardOrder}
 use Rattle.board_session.specs.Orders.Asked.{something}
-use Rattle.board_session.specs.Orders.BoardOrder.{genmove, komi, loadsgf, reg_genmove}
+use Rattle.board_session.specs.Orders.BoardOrder.{analyse, genmove, komi, loadsgf, reg_genmove}
 use Rattle.board_session.specs.Handicaps.{CannotPut, IsSomeAstray, NamePoints, PutsStones}
 use Rattle.board_session.specs.inner.Generating.{IsMadeBy}
 use Rattle.board_session.specs.Kept.{IsFitAfter, IsModest, IsOnBoard}
@@ -90,11 +90,12 @@ abbrev pub AsksInRange : Asked → Type 0
 AsksInRange (something order) = HasKomiInRange order
 AsksInRange asked = Unit {0}
 
--- the order asks for neither a file nor a move
+-- the order asks for neither a file nor the solver
 abbrev pub IsPlainOrder : BoardOrder → Type 0
 IsPlainOrder (loadsgf file after) = ⊥
 IsPlainOrder (genmove c) = ⊥
 IsPlainOrder (reg_genmove c) = ⊥
+IsPlainOrder (analyse x) = ⊥
 IsPlainOrder order = Unit {0}
 
 -- what a load comes to can be taken up: a position can be opened

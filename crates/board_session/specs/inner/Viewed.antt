@@ -5,7 +5,7 @@ use Rattle.board_session.specs.declared.request.Request.TheVariants as request
 use Rattle.board_session.specs.declared.request.Asked.{Asked as AskedRequest}
 use Rattle.board_session.specs.declared.request.Asked.TheVariants as asked
 use Rattle.board_session.specs.Orders.{BoardOrder, Asked}
-use Rattle.board_session.specs.Orders.BoardOrder.{tell, known, ask, boardsize, clear_board, komi, play, genmove, reg_genmove, loadsgf, undo, fixed_handicap, free_handicap, quit}
+use Rattle.board_session.specs.Orders.BoardOrder.{tell, known, ask, boardsize, clear_board, komi, play, genmove, reg_genmove, analyse, loadsgf, undo, fixed_handicap, free_handicap, quit}
 use Rattle.board_session.specs.Orders.Asked.{something, unknown, misfit}
 
 -- the order that a request stands for
@@ -19,6 +19,7 @@ order_of (request.Komi halves) = komi halves
 order_of (request.Play c w) = play c w
 order_of (request.GenMove c) = genmove c
 order_of (request.RegGenMove c) = reg_genmove c
+order_of (request.Analyse x) = analyse x
 order_of (request.LoadSgf file after) = loadsgf file.now after
 order_of request.Undo = undo
 order_of (request.FixedHandicap n) = fixed_handicap n

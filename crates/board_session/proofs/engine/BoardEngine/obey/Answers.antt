@@ -1,7 +1,8 @@
 use Rattle.std.proofs.Common.{ap, refl, arith, subst, IfOk}
 use Rattle.board_session.specs.inner.Viewed.{order_of}
+use Rattle.board_session.specs.inner.Analysing.{IsReported}
 use Rattle.board_session.specs.inner.Doing.{IsGenerated, IsSuggested}
-use Rattle.board_session.proofs.AnswerLemmas.{generated_obeyed, plain_obeyed, plain_same, suggested_obeyed}
+use Rattle.board_session.proofs.AnswerLemmas.{generated_obeyed, plain_obeyed, plain_same, reported_obeyed, suggested_obeyed}
 use Rattle.board_session.proofs.engine.BoardEngine.obey.Goals as goal
 
 pub returns-in_default : goal.returns-in_default
@@ -28,3 +29,10 @@ returns-in-RegGenMove-clause-obeyed g c =
     suggested_obeyed inside.limits inside.loads inside.session inside.session c.args.self.now c.self-in-RegGenMove.view_is (g.H.Shelf.files c.args.shelf.now) (g.H.Shelf.faults c.args.shelf.now) id
     (order_of c.args.request) colour (ap order_of c.in-RegGenMove.is) c.suggest.result
     (subst (λ l. IfOk c.suggest.result (λ reply. IsSuggested inside.limits.cycles l colour id inside.session reply)) c.of_game-limits-in-RegGenMove.ensures c.suggest.ensures.suggested)
+
+pub returns-in-Analyse-clause-obeyed : goal.returns-in-Analyse-clause-obeyed
+returns-in-Analyse-clause-obeyed g c =
+    let inside = c.self-in-Analyse.inside in let analysis = c.in-Analyse.analysis in let id = c.args.id.now in
+    reported_obeyed inside.limits inside.loads inside.session inside.session c.args.self.now c.self-in-Analyse.view_is (g.H.Shelf.files c.args.shelf.now) (g.H.Shelf.faults c.args.shelf.now) id
+    (order_of c.args.request) analysis (ap order_of c.in-Analyse.is) c.report.result
+    (subst (λ l. IfOk c.report.result (IsReported l analysis id inside.session)) c.of_game-limits-in-Analyse.ensures c.report.ensures.reported)

@@ -1,0 +1,15 @@
+use mir.Syntax.{w64}
+use Rattle.std.proofs.Common.{subst, IfOk}
+use Rattle.std.proofs.lemmas.Int.{to_z-of_z}
+use Rattle.fault_words.specs.declared.naming.Naming.TheVariants.{Gtp}
+use Rattle.report.specs.Analysis.{IsLineText, name_on}
+use Rattle.board_session.specs.inner.Analysing.{ShowsText}
+use Rattle.board_session.proofs.AnalysisLemmas.{text_found}
+use Rattle.board_session.proofs.analysis.reply_line.Goals as goal
+
+pub returns : goal.returns
+returns c =
+    let komi = to_z-of_z w64 c.args.komi_halves c.ranges.komi_halves in let s = c.args.game.now.state in let text = c.in_ok-text.text in
+    text_found (IsLineText (name_on Gtp s.board) c.args.game.now.regions s c.args.komi_halves) c.args.id.now text c.show.result
+    (subst (λ k. IsLineText (name_on Gtp s.board) c.args.game.now.regions s k text) komi c.in_ok-text.ensures)
+    (subst (λ t. IfOk c.show.result (ShowsText c.args.id.now t)) c.as_slice.ensures c.show.ensures)

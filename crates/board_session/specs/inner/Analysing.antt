@@ -1,0 +1,37 @@
+-- The replies to analyses.
+use Rattle.std.specs.Prelude.{◌≡◌, ℕ, ℤ, List}
+use Rattle.go_grid.specs.Board.{Board}
+use Rattle.go_grid.specs.Region.{Region}
+use Rattle.sgf_go.specs.declared.settings.Setup.{Setup}
+use Rattle.whole_rules.specs.WholeGame.{Whole}
+use Rattle.endgame_solver.specs.declared.limits.Limits.{Limits}
+use Rattle.board_session.specs.declared.topic.Analysis.{Analysis}
+use Rattle.board_session.specs.declared.topic.Status.{Status}
+use Rattle.board_session.specs.declared.topic.Topic.{Topic}
+use Rattle.board_session.specs.Analysing.{Finding, FindsIn, FindsOn, FindsStones, IsShown}
+use Rattle.board_session.specs.Session.{Reports, Said, done, finding_said, reply_text}
+use Rattle.board_session.specs.States.{BoardState}
+
+-- the reply tells what is found, which is so
+abbrev pub RepliesTo : (Finding → Type 0) → List ℕ → List ℕ → Type 0
+RepliesTo IsFound id reply = (finding : Finding) × IsFound finding × (reply ≡ reply_text id (finding_said finding))
+
+-- the reply shows a text
+abbrev pub ShowsText : List ℕ → List ℕ → List ℕ → Type 0
+ShowsText id text reply = (shown : List ℕ) × IsShown text shown × (reply ≡ reply_text id (done shown))
+
+-- the reply on a topic of a state that opens with this komi, and whose regions of play these are
+abbrev pub RepliesOn : Topic → List Region → Whole → ℤ → List ℕ → List ℕ → Type 0
+RepliesOn topic regions w k = RepliesTo (FindsOn topic regions w k)
+
+-- the reply on a topic of a position
+abbrev pub RepliesIn : Limits → Topic → Setup → List ℕ → List ℕ → Type 0
+RepliesIn limits topic setup = RepliesTo (FindsIn limits topic setup)
+
+-- the reply on the stones of a status
+abbrev pub RepliesStones : Status → Board → List ℕ → List ℕ → Type 0
+RepliesStones x g = RepliesTo (FindsStones x g)
+
+-- the reply to an analysis
+abbrev pub IsReported : Limits → Analysis → List ℕ → BoardState → List ℕ → Type 0
+IsReported limits x id s reply = (said : Said) × Reports limits x s said × (reply ≡ reply_text id said)

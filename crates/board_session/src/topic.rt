@@ -1,0 +1,47 @@
+//! What analyses of a position tell.
+
+ghost use Rattle.std.specs.Prelude.{◌≡◌, ◌≢◌, IfSome, IfNone};
+ghost use Rattle.board_session.specs.Orders.{status_word};
+ghost use Rattle.board_session.specs.declared.topic.Status.{Status};
+
+use go_grid::Colour;
+
+/// What the game that a position opens tells.
+#[derive(Clone, Copy, Debug, PartialEq, Eq)]
+pub(crate) enum Topic {
+    /// The ten best stones.
+    Best,
+    Margin,
+    Moves,
+    Line,
+    /// The score of a finished game.
+    Score,
+}
+
+/// What stones of a finished game are.
+#[derive(Clone, Copy, Debug, PartialEq, Eq)]
+pub(crate) enum Status {
+    Alive,
+    Dead,
+    Seki,
+}
+
+/// What an analysis of the present position tells: of the game with the colour to move, or which stones have a status.
+#[derive(Clone, Copy, Debug, PartialEq, Eq)]
+pub(crate) enum Analysis {
+    Game(Topic, Colour),
+    Stones(Status),
+}
+
+/// The status that a word names.
+pub(crate) fn read_status(word: &[u8]) -> Option<Status>
+    ensures some { IfSome result (λ status. word.now ≡ status_word status) }
+    ensures none { IfNone result ((status : Status) → word.now ≢ status_word status) }
+{
+    match word {
+        b"alive" => Some(Status::Alive),
+        b"dead" => Some(Status::Dead),
+        b"seki" => Some(Status::Seki),
+        _ => None,
+    }
+}
