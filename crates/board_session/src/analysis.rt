@@ -115,7 +115,8 @@ fn reply_best(
     komi_halves: i64,
 ) -> Result<ItemList<u8>, AllocError>
     requires komi { unsigned_abs komi_halves ≤ 2 ^ 24 }
-    ensures { IfOk result (RepliesOn Topic.Best game.old.regions game.old.state komi_halves id.now) }
+    ensures { IfOk result (RepliesOn Topic.Best game.old.regions game.old.state komi_halves
+        id.now) }
 {
     let text = top_stones_text(alloc, Naming::Gtp, game, komi_halves)?;
     show(alloc, id, text.as_slice())

@@ -100,7 +100,8 @@ fn read_basic(word: &str) -> Option<BasicCommand>
 /// The command that a word names, of those that ask for an analysis.
 fn read_analysis(word: &str) -> Option<AnalysisCommand>
     ensures some { IfSome result (λ command. word.now ≡ analysis_word command) }
-    ensures none { IfNone result ((command : AnalysisCommand) → word.now ≢ analysis_word command) }
+    ensures none { IfNone result ((command : AnalysisCommand)
+        → word.now ≢ analysis_word command) }
 {
     match word {
         "top_moves_black" => Some(AnalysisCommand::TopMovesBlack),

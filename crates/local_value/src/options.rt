@@ -64,7 +64,8 @@ pub(crate) fn hash_of(options: &[u32]) -> u32 {
 
 /// The same options in ascending order.
 pub(crate) fn in_order(alloc: Global, options: &[u32]) -> Result<Vec<u32>, AllocError>
-    ensures { IfOk result (λ sorted. (n : ℕ) → Contains sorted.items n ↔ Contains options.now n) }
+    ensures { IfOk result (λ sorted. (n : ℕ)
+        → Contains sorted.items n ↔ Contains options.now n) }
 {
     let mut sorted = Vec::with_capacity(alloc, options.len())?;
     sorted.extend_from_slice(options)?;
