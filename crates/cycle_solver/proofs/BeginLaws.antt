@@ -28,8 +28,8 @@ use Rattle.cycle_solver.specs.declared.faults.CycleError.{CycleError}
 use Rattle.cycle_solver.specs.declared.faults.CycleError.TheVariants.{Captures, Form, Memory, Points, Positions}
 use Rattle.cycle_solver.specs.declared.region_game.RegionGame.{RegionGame}
 use Rattle.cycle_solver.specs.Games.{AreSolvedBelow}
-use Rattle.cycle_solver.specs.GameLists.{game_at}
-use Rattle.cycle_solver.specs.Held.{AreSolved, HaveOpenings, IsAt, IsHeld, enough, ids_with, layers_for, place_at}
+use Rattle.cycle_solver.specs.GameLists.{game_at, layers_for}
+use Rattle.cycle_solver.specs.Held.{AreSolved, HaveOpenings, IsAt, IsHeld, enough, ids_with, place_at}
 
 module _ {limits : Limits} {most : ℕ} {regions : List Region} {games : List RegionGame} {Ts : List Tree}
     (done : AreSolvedBelow limits most regions games Ts (length regions)) where

@@ -31,6 +31,8 @@ use Rattle.local_graph.specs.ReturnGraph.{IsReturningCaptureAt}
 use Rattle.whole_budgets.specs.BudgetPlay.{IsReturningCapture}
 use Rattle.whole_budgets.specs.BudgetSums.{WinsGame}
 use Rattle.whole_budgets.proofs.BudgetPlayLemmas.{other_not, other_twice}
+use Rattle.cycle_solver.specs.declared.views.View.{View}
+use Rattle.cycle_solver.specs.Turned.{own}
 use Rattle.cycle_solver.specs.declared.asking.Present.{Present}
 use Rattle.cycle_solver.specs.declared.changes.Change.{Change}
 use Rattle.cycle_solver.specs.declared.region_game.RegionGame.{RegionGame}
@@ -243,14 +245,15 @@ half_last s winner none spend = elim winner [
 
 -- Looking for the edge of a stone.
 
--- none of the first n edges stands for the stone
-abbrev pub NoEdgeBefore : Region → List Edge → Colour → ℕ → ℕ → Type 0
-NoEdgeBefore r edges c p n = (j : ℕ) (f : Edge) → j < n → j < length edges → get_or edges j f ≡ f → ¬ IsStoneAt r c p f
+-- none of the moves that the first n edges stand for is that of the stone
+abbrev pub NoOwnBefore : Region → View → List Edge → Colour → ℕ → ℕ → Type 0
+NoOwnBefore r v edges c p n = (j : ℕ) (f : Edge) → j < n → j < length edges → get_or edges j f ≡ f → ¬ IsStoneAt r c p (own v f)
 
-pub no_edge_more : (r : Region) (edges : List Edge) (c : Colour) (p n : ℕ) → ¬ IsStoneAt r c p (get_or edges n no_edge)
-    → NoEdgeBefore r edges c p n → NoEdgeBefore r edges c p (n + 1)
-no_edge_more r edges c p n none before j f less short at stone = elim (cases_eq j n) as (λ _. ⊥) [
-  | inl same ↦ none (subst (IsStoneAt r c p) (sym at ∙ get_or_default edges j f no_edge short ∙ ap (λ m. get_or edges m no_edge) same) stone)
+pub no_own_more : (r : Region) (v : View) (edges : List Edge) (c : Colour) (p n : ℕ) → ¬ IsStoneAt r c p (own v (get_or edges n no_edge))
+    → NoOwnBefore r v edges c p n → NoOwnBefore r v edges c p (n + 1)
+no_own_more r v edges c p n none before j f less short at stone = elim (cases_eq j n) as (λ _. ⊥) [
+  | inl same ↦
+      none (subst (λ e. IsStoneAt r c p (own v e)) (sym at ∙ get_or_default edges j f no_edge short ∙ ap (λ m. get_or edges m no_edge) same) stone)
   | inr ne ↦ before j f (omega (arith, less, ne)) short at stone
 ]
 
@@ -313,16 +316,20 @@ stone_place present x some {k} {i} is known inside c budget =
     ap (λ o. place_at (places_after present.places.now o) k) is ∙ get_or-set_same present.places.now k i 0 inside in
     omega (arith, within, there)
 
+-- the stone's region is one of the regions
+pub stone_known : (present : Present) (x : Change) → IsSomeChange present x → {k i : ℕ} → x.stone ≡ Some (k, i) → k < length present.regions.now
+stone_known present x some is = subst (λ o. IfSome o (λ y. y.0 < length present.regions.now)) is some.1.known
+
 pub stone_inside : (present : Present) → IsSeen present → (x : Change) → IsSomeChange present x → {k i : ℕ} → x.stone ≡ Some (k, i) → (c : Colour) (budget : ℕ)
     → i < length (ids_with (game_at present.games.now k) c budget)
 stone_inside present seen x some {k} is c budget =
-    let known : k < length present.regions.now = subst (λ o. IfSome o (λ y. y.0 < length present.regions.now)) is some.1.known in
+    let known = stone_known present x some is in
     stone_place present x some is (omega (arith, known, seen.solved.many)) (omega (arith, known, seen.at.many)) c budget
 
 pub stone_in_sum : (present : Present) → IsSeen present → (x : Change) → IsSomeChange present x → {k i : ℕ} → x.stone ≡ Some (k, i) → {c : Colour} {ids : List ℕ}
     → AreSummed present.games.now present.places.now c enough ids → k < length ids
 stone_in_sum present seen x some {k} is summed =
-    let known : k < length present.regions.now = subst (λ o. IfSome o (λ y. y.0 < length present.regions.now)) is some.1.known in
+    let known = stone_known present x some is in
     omega (arith, known, seen.solved.many, summed.many)
 
 -- the sum with the value that the stone leads to
@@ -330,7 +337,7 @@ pub summed_stone : (present : Present) → IsSeen present → (x : Change) → I
     → {ids : List ℕ} → AreSummed present.games.now present.places.now c enough ids → v ≡ get_or (ids_with (game_at present.games.now k) c enough) i 0
     → AreSummed present.games.now (places_after present.places.now x.stone) c enough (set ids k v)
 summed_stone present seen x some {k} {i} {v} is c {ids} summed value =
-    let known : k < length present.regions.now = subst (λ o. IfSome o (λ y. y.0 < length present.regions.now)) is some.1.known in
+    let known = stone_known present x some is in
     subst (λ o. AreSummed present.games.now (places_after present.places.now o) c enough (set ids k v)) (sym is)
     (summed_put k i v (omega (arith, known, seen.at.many)) (omega (arith, known, seen.solved.many)) summed (λ j ne. refl) value)
 

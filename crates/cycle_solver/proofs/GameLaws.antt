@@ -27,8 +27,8 @@ use Rattle.cycle_solver.specs.declared.faults.CycleError.{CycleError}
 use Rattle.cycle_solver.specs.declared.faults.CycleError.TheVariants.{Captures, Form, Memory, Points, Positions}
 use Rattle.cycle_solver.specs.declared.region_game.RegionGame.{RegionGame}
 use Rattle.cycle_solver.specs.Games.{AreSolvedBelow, IsGraphWithin, IsRefusalOf, IsSolvedBy, MayBeSteady}
-use Rattle.cycle_solver.specs.GameLists.{game_at, no_game}
-use Rattle.cycle_solver.specs.Held.{AreLayersOf, ids_with, layers_for}
+use Rattle.cycle_solver.specs.GameLists.{game_at, layers_for, no_game}
+use Rattle.cycle_solver.specs.Held.{AreLayersOf, ids_with}
 
 module _ (r : Region) (g : ReturnGraph) (of : IsReturnGraphOf r g) (c : Colour) (limit : ℕ) where
   -- where the values of the graph are within the limits none of a reachable position is too large
@@ -154,7 +154,7 @@ maybe_later limits most r g c Ts Us (Some layers) e (budget, few, are) = (
 
 -- Regions one after the other.
 
-game_later : {limits : Limits} {most : ℕ} {r : Region} {Ts Us : List Tree} {game : RegionGame} → Extends Ts Us → IsSolvedBy limits most r Ts game
+pub game_later : {limits : Limits} {most : ℕ} {r : Region} {Ts Us : List Tree} {game : RegionGame} → Extends Ts Us → IsSolvedBy limits most r Ts game
     → IsSolvedBy limits most r Us game
 game_later {r = r} {Ts} {Us} {game} e s = record {
   sound = s.sound;

@@ -14,8 +14,8 @@ use Rattle.endgame_solver.specs.SumGame.{balance}
 use Rattle.whole_budgets.specs.BudgetSums.{WinsGame}
 use Rattle.whole_budgets.specs.EnginePlay.{AreReducedBelow, IsLeastAt, WinsWithList}
 use Rattle.cycle_solver.specs.declared.region_game.RegionGame.{RegionGame}
-use Rattle.cycle_solver.specs.GameLists.{game_at}
-use Rattle.cycle_solver.specs.Held.{AreSummedWith, IsHeld, ids_with, layers_for, place_at}
+use Rattle.cycle_solver.specs.GameLists.{game_at, layers_for}
+use Rattle.cycle_solver.specs.Held.{AreSummedWith, IsHeld, ids_with, place_at}
 use Rattle.cycle_solver.proofs.ChangeLaws.{summed_as, summed_put}
 use Rattle.cycle_solver.proofs.SumLaws.{told, wins_listed}
 

@@ -7,9 +7,14 @@ pub mod KeepingLaws
 pub mod LeastLaws
 pub mod LentLaws
 pub mod MarginLaws
+pub mod NoteLaws
 pub mod OneSumLaws
+pub mod OwnGameLaws
+pub mod OwnGraphLaws
+pub mod OwnReturnLaws
+pub mod OwnValueLaws
+pub mod SharedLaws
 pub mod SumLaws
 pub mod StoneLaws
 pub mod ThresholdLaws
-pub mod TranslateLaws
 pub mod TurnLaws

@@ -1,5 +1,6 @@
 -- Where one sum has the values of both players, it says for both who wins: White exactly where Black doesn't.
-use Rattle.std.proofs.Common.{ℕ, ◌≡◌, ◌<◌, inl, inr, refl, sym, subst, arith, List, length, get_or, set, IfSome, Option, None, Some}
+use Rattle.std.proofs.Common.{ℕ, ◌≡◌, ◌<◌, ◌≤◌, inl, inr, refl, sym, subst, arith, List, length, get_or, set, IfSome, Option, None, Some}
+use Rattle.std.proofs.lemmas.List.{ext_get_or}
 use Rattle.go_grid.specs.declared.grid.Colour.{Colour}
 use Rattle.go_grid.specs.declared.grid.Colour.TheVariants.{Black, White}
 use Rattle.go_grid.specs.Board.{Board}
@@ -70,3 +71,10 @@ one_decides {Ts = Ts} are {s} at (ids, each) not =
 pub one_decides_after : {present : Present} {x : Change} {m : Move} {t : Whole} → IsChange present m x → IsMove present.whole.now m t
     → HaveOneSum present.games.now (places_after present.places.now x.stone) → ¬ IsWinner t Black → IsWinner t White
 one_decides_after change move one not = let (g, are, at) = (change.each _ move).stands in one_decides are at one not
+
+-- the lists are as long, and the same below the place
+abbrev pub AreSameBelow : {X : Type 0} → X → List X → List X → ℕ → Type 0
+AreSameBelow d xs ys n = (length xs ≡ length ys) × ((k : ℕ) → k < n → get_or xs k d ≡ get_or ys k d)
+
+pub same_all : {X : Type 0} (d : X) (xs ys : List X) (n : ℕ) → length xs ≤ n → AreSameBelow d xs ys n → xs ≡ ys
+same_all d xs ys n le (long, below) = ext_get_or d xs ys long (λ k lt. below k (omega (arith, lt, le)))

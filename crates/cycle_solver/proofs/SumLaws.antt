@@ -37,8 +37,8 @@ use Rattle.whole_budgets.proofs.BudgetListLemmas.{budget_there}
 use Rattle.whole_budgets.proofs.BudgetPlayLemmas.{other_not}
 use Rattle.whole_budgets.proofs.BudgetSumLaws.{winner_by_sum, wins-same, wins_by_sum}
 use Rattle.cycle_solver.specs.declared.region_game.RegionGame.{RegionGame}
-use Rattle.cycle_solver.specs.GameLists.{game_at}
-use Rattle.cycle_solver.specs.Held.{AreSolved, AreSummed, AreSummedBy, HaveOpenings, HavePlaces, IsAt, IsHeld, enough, ids_with, layers_for, place_at}
+use Rattle.cycle_solver.specs.GameLists.{game_at, layers_for}
+use Rattle.cycle_solver.specs.Held.{AreSolved, AreSummed, AreSummedBy, HaveOpenings, HavePlaces, IsAt, IsHeld, enough, ids_with, place_at}
 
 -- values of positions that a board holds are as good as some trees of them
 module _ (g h : Board) (c : Colour) (IsFit : Region → ℕ → Type 0) (Ts : List Tree) where

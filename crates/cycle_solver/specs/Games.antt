@@ -31,11 +31,6 @@ pub record IsSolvedBy (limits : Limits) (most : ℕ) (r : Region) (Ts : List Tre
   pub sound : IsSteadyWithin limits most r
   pub holds : IsGameOf r Ts game
 
--- the regions hold the same, and the same is next to their places: the one is the other, moved over the board
-pub record IsTranslate (r q : Region) : Type 0 where
-  pub cells : r.cells ≡ q.cells
-  pub touch : r.touch ≡ q.touch
-
 -- the region's fault, or want of memory
 abbrev pub IsRefusalOf : Limits → ℕ → Region → CycleError → Type 0
 IsRefusalOf limits most r (Memory e) = Unit {0}

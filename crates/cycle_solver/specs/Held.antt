@@ -25,17 +25,7 @@ use Rattle.endgame_solver.specs.ModestGames.{most_value}
 use Rattle.endgame_solver.specs.Regions.{IsStoneAt, region_at}
 use Rattle.cycle_solver.specs.declared.asking.Present.{Present}
 use Rattle.cycle_solver.specs.declared.region_game.RegionGame.{RegionGame}
-use Rattle.cycle_solver.specs.GameLists.{game_at}
-
--- White's own layers, or Black's where there are none
-abbrev pub own_layers : Option (List (List ℕ)) → List (List ℕ) → List (List ℕ)
-own_layers None black = black
-own_layers (Some white) black = white
-
--- the layers of a colour's values
-abbrev pub layers_for : RegionGame → Colour → List (List ℕ)
-layers_for game Black = game.black
-layers_for game White = own_layers game.white game.black
+use Rattle.cycle_solver.specs.GameLists.{game_at, layers_for}
 
 -- the layer that serves a budget: its own, or the last
 abbrev pub ids_with : RegionGame → Colour → ℕ → List ℕ

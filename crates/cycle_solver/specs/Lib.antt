@@ -6,5 +6,6 @@ pub mod Games
 pub mod Held
 pub mod Keeping
 pub mod Thresholds
+pub mod Turned
 pub mod Winner
 pub mod inner

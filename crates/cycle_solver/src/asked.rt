@@ -18,7 +18,7 @@ ghost use Rattle.cycle_solver.specs.Held.{IsSeenFor, enough};
 ghost use Rattle.cycle_solver.specs.Thresholds.{IsGoodFor};
 ghost use Rattle.cycle_solver.specs.inner.Asked.{AreAnswers, IsOn, IsWonBy};
 
-use crate::asking::{ENOUGH, Present, value_with};
+use crate::asking::{ENOUGH, Present};
 use crate::changes::{Change, wins_after};
 use endgame_solver::margin_of;
 use game_store::{GameId, Store};
@@ -157,7 +157,7 @@ fn known_behind(
     match change.stone {
         None => None,
         Some((k, place)) => {
-            let after = value_with(present.games.at(k), player, ENOUGH, place);
+            let after = present.games.value_with(k, player, ENOUGH, place);
             known_margin(answered, sum[k], after, change.purses)
         }
     }

@@ -1,6 +1,6 @@
 //! Who wins the present state: each player is asked of the sum of that player's values.
 
-ghost use Rattle.std.specs.Prelude.{◌≡◌, ◌<◌, ◌↔◌, IfOk, IsTrue, MatchOption, length, replicate, slice_index};
+ghost use Rattle.std.specs.Prelude.{◌≡◌, ◌<◌, ◌↔◌, IfOk, IsTrue, MatchOption, length, replicate};
 ghost use Rattle.go_grid.specs.declared.grid.Colour.TheVariants.{Black, White};
 ghost use Rattle.short_games.specs.Number.{num};
 ghost use Rattle.short_games.specs.Sum.{◌+ᵍ◌, total};
@@ -13,10 +13,9 @@ ghost use Rattle.whole_budgets.specs.BudgetPlay.{WinsWithCaptures};
 ghost use Rattle.whole_budgets.specs.BudgetSums.{WinsGame};
 ghost use Rattle.whole_budgets.specs.EnginePlay.{AreLeastCaptures};
 ghost use Rattle.cycle_solver.specs.Winner.{TellsCaptures, TellsWinner};
-ghost use Rattle.cycle_solver.specs.Held.{AreSummed, HaveOpenings, HavePlaces, IsSeen, IsSeenFor, enough, ids_with};
+ghost use Rattle.cycle_solver.specs.Held.{AreSummed, HaveOpenings, HavePlaces, IsSeen, IsSeenFor, enough};
 
 use crate::one_sum::{are_same_ids, is_same_id};
-use crate::region_game::{RegionGame, values_for};
 use crate::shared_games::RegionGames;
 use endgame_solver::balance_of;
 use game_store::{GameId, Store};
@@ -73,14 +72,6 @@ pub(crate) fn wins_sum(
     lost
 }
 
-/// The value of a region's position at a place, with a budget.
-pub(crate) fn value_with(game: &RegionGame, player: Colour, budget: usize, place: usize) -> GameId
-    requires { place < length (ids_with game.now player budget) }
-    ensures { result ≡ slice_index (ids_with game.now player budget) place }
-{
-    values_for(game, player).with(budget).as_slice()[place]
-}
-
 /// Puts the values of the present positions with a budget into a sum.
 pub(crate) fn fill(
     games: &RegionGames,
@@ -94,7 +85,7 @@ pub(crate) fn fill(
     ensures { AreSummed games.now places.now player budget sum.new }
 {
     'regions: for k in 0..games.len() {
-        sum[k] = value_with(games.at(k), player, budget, places[k]);
+        sum[k] = games.value_with(k, player, budget, places[k]);
     }
 }
 
@@ -111,7 +102,7 @@ fn is_filled(
     ensures { IsTrue result → AreSummed games.now places.now player budget sum.now }
 {
     'regions: for k in 0..games.len() {
-        if !is_same_id(sum[k], value_with(games.at(k), player, budget, places[k])) {
+        if !is_same_id(sum[k], games.value_with(k, player, budget, places[k])) {
             return false;
         }
     }

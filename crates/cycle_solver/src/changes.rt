@@ -13,10 +13,8 @@ ghost use Rattle.local_graph.specs.ReturnGraph.{IsReturningCaptureAt};
 ghost use Rattle.cycle_solver.specs.Held.{AreSummedBy, HaveEdges, IsSeen, IsSeenFor, IsStoneEdge, enough};
 ghost use Rattle.cycle_solver.specs.Changes.{AreBehind, IsChange, IsSomeChange, places_after};
 
-use crate::asking::{ENOUGH, Present, value_with, wins_sum};
-use crate::region_game::RegionGame;
+use crate::asking::{ENOUGH, Present, wins_sum};
 use crate::shared_games::RegionGames;
-use endgame_solver::is_stone_at;
 use game_store::GameId;
 use go_grid::{Colour, Point, Region};
 use local_graph::Edge;
@@ -30,28 +28,6 @@ pub struct Change {
     pub stone: Option<(usize, usize)>,
     pub uses: bool,
     pub purses: Purses,
-}
-
-/// The move of a stone of the player at a point of a region, among the edges.
-fn edge_in(region: &Region, edges: &[Edge], point: Point, colour: Colour) -> Option<Edge>
-    ensures { MatchOption result
-        ((e : Edge) → Contains edges.now e → ¬ IsStoneAt region.now colour point e)
-        (λ e. Contains edges.now e × IsStoneAt region.now colour point e) }
-{
-    'edges: for edge in edges {
-        if is_stone_at(region, *edge, point, colour) {
-            return Some(*edge);
-        }
-    }
-    None
-}
-
-/// The edges of a region's position at a place.
-fn edges_of(game: &RegionGame, place: usize) -> &[Edge]
-    requires { place < length game.now.graph.positions }
-    ensures { result.now ≡ edges_at game.now.graph.edges place }
-{
-    game.graph.graph().edges(place)
 }
 
 /// The region and the edge of a stone at a point.
@@ -68,22 +44,11 @@ fn stone_edge(
         (λ x. IsStoneEdge regions.now games.now places.now colour point x.0 x.1) }
 {
     'regions: for k in 0..regions.len() {
-        let edges = edges_of(games.at(k), places[k]);
-        if let Some(edge) = edge_in(&regions[k], edges, point, colour) {
+        if let Some(edge) = games.stone(k, places[k], &regions[k], point, colour) {
             return Some((k, edge));
         }
     }
     None
-}
-
-/// Whether an edge of a region's position at a place is a capture that returns.
-fn is_returning(game: &RegionGame, place: usize, edge: Edge) -> bool
-    requires place { place < length game.now.graph.positions }
-    requires next { edge.next < length game.now.graph.positions }
-    ensures { IsTrue result
-        ↔ IsReturningCaptureAt edge.colour game.now.graph.components place edge }
-{
-    game.graph.is_returning_capture(place, &edge, edge.colour)
 }
 
 /// What a stone of the side to move changes. None exactly where the stone is illegal.
@@ -102,7 +67,7 @@ fn stone_change(present: &Present<'_>, point: Point) -> Option<Change>
     };
     Some(Change {
         stone: Some((k, edge.next)),
-        uses: is_returning(present.games.at(k), present.places[k], edge),
+        uses: present.games.is_returning(k, present.places[k], edge),
         purses: present.whole.purses().paid_in(side, u64::from(edge.taken)),
     })
 }
@@ -163,7 +128,7 @@ pub(crate) fn put_change(
         None => None,
         Some((k, place)) => {
             let before = sum[k];
-            sum[k] = value_with(present.games.at(k), player, budget, place);
+            sum[k] = present.games.value_with(k, player, budget, place);
             Some((k, before))
         }
     }

@@ -17,11 +17,11 @@ ghost use Rattle.cycle_solver.specs.Thresholds.{AreThresholdsFrom};
 ghost use Rattle.cycle_solver.specs.Winner.{TellsCaptures, TellsWinner, TellsWinnerAfter};
 
 use crate::asked::Answered;
-use crate::asking::{ENOUGH, Present, captures_of, start_of, value_with, winner_of};
+use crate::asking::{ENOUGH, Present, captures_of, start_of, winner_of};
 use crate::changes::change_of;
 use crate::faults::CycleError;
-use crate::region_game::RegionGame;
-use crate::shared_games::{RegionGames, region_games};
+use crate::shape_games::region_games;
+use crate::shared_games::RegionGames;
 use crate::thresholds::{Thresholds, thresholds_after, thresholds_of};
 use crate::winning_moves::{first_winning_move, winner_after};
 use endgame_solver::{Limits, first_known, first_large, opening_of};
@@ -87,13 +87,6 @@ impl Model for CycleGame {
         s.high.items s.store s.whole × Fits s.store s.search
         × AreAnswers s.store s.low.items (other s.whole.side) s.low_asked.items
         × AreAnswers s.store s.high.items (other s.whole.side) s.high_asked.items };
-}
-
-/// The number of positions of a region.
-fn positions_of(game: &RegionGame) -> usize
-    ensures { result ≡ length game.now.graph.positions }
-{
-    game.graph.graph().len()
 }
 
 impl CycleGame {
@@ -174,9 +167,9 @@ impl CycleGame {
         CycleReport {
             lowest: points[0],
             points: points.len() as u16,
-            positions: positions_of(self.games.at(i)) as u64,
-            low: value_with(self.games.at(i), Colour::Black, ENOUGH, 0),
-            high: value_with(self.games.at(i), Colour::White, ENOUGH, 0),
+            positions: self.games.positions(i) as u64,
+            low: self.games.value_with(i, Colour::Black, ENOUGH, 0),
+            high: self.games.value_with(i, Colour::White, ENOUGH, 0),
         }
     }
 

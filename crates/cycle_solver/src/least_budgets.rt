@@ -3,10 +3,9 @@
 ghost use Rattle.std.specs.Prelude.{◌≡◌, ◌+◌, ◌<◌, ◌↔◌, ℕ, IsTrue, length, slice_set};
 ghost use Rattle.sum_outcome.specs.Memo.{Fits};
 ghost use Rattle.whole_budgets.specs.EnginePlay.{AreReducedBelow, IsLeastAt, WinsWithList};
-ghost use Rattle.cycle_solver.specs.Held.{AreSummedWith, HavePlaces, IsSeen, IsSeenFor, enough, layers_for};
+ghost use Rattle.cycle_solver.specs.Held.{AreSummedWith, HavePlaces, IsSeen, IsSeenFor, enough};
 
-use crate::asking::{ENOUGH, Present, fill, value_with, wins_sum};
-use crate::region_game::{RegionGame, values_for};
+use crate::asking::{ENOUGH, Present, fill, wins_sum};
 use crate::shared_games::RegionGames;
 use game_store::GameId;
 use go_grid::Colour;
@@ -26,7 +25,7 @@ pub(crate) fn fill_with(
     ensures { AreSummedWith games.now places.now player budgets.now sum.new }
 {
     'regions: for k in 0..games.len() {
-        sum[k] = value_with(games.at(k), player, budgets[k], places[k]);
+        sum[k] = games.value_with(k, player, budgets[k], places[k]);
     }
 }
 
@@ -66,7 +65,7 @@ fn put_budget(present: &Present<'_>, sum: &mut [GameId], budgets: &[usize], k: u
         present.now.whole.now.side (slice_set budgets.now k budget) sum.new }
 {
     let side = present.whole.side();
-    sum[k] = value_with(present.games.at(k), side, budget, present.places[k]);
+    sum[k] = present.games.value_with(k, side, budget, present.places[k]);
 }
 
 /// Whether the side to move wins with a budget in one region and the listed ones elsewhere.
@@ -96,13 +95,6 @@ fn wins_at(
     wins_sum(present.store, search, sum, purses, side, side)
 }
 
-/// The budget beyond which a region's values don't change.
-fn steady_budget(game: &RegionGame, player: Colour) -> usize
-    ensures { result + 1 ≡ length (layers_for game.now player) }
-{
-    values_for(game, player).budget()
-}
-
 /// The least budget of a region with which the side to move wins, where the other budgets are as listed.
 fn least_at(
     present: &Present<'_>,
@@ -124,7 +116,7 @@ fn least_at(
         present.now.whole.now.side (slice_set budgets.now k result) sum.new }
     ensures fits { Fits present.now.store.now search.new }
 {
-    let steady = steady_budget(present.games.at(k), present.whole.side());
+    let steady = present.games.steady_budget(k, present.whole.side());
     let most = budgets[k].min(steady);
     'rising: for budget in 0..most {
         if wins_at(present, search, sum, budgets, k, budget) {

@@ -3,6 +3,7 @@
 
 mod asked;
 mod asking;
+mod book;
 mod changes;
 mod cycle_game;
 mod engine_turns;
@@ -11,10 +12,14 @@ mod holding_moves;
 mod keeping_moves;
 mod laws;
 mod least_budgets;
+mod negatives;
 mod one_sum;
 mod region_game;
+mod shape_games;
+mod shapes;
 mod shared_games;
 mod thresholds;
+mod views;
 mod winning_moves;
 
 pub use asking::{Present, Start, captures_of, start_of, winner_of};
@@ -22,5 +27,6 @@ pub use cycle_game::{CycleGame, CycleReport};
 pub use faults::CycleError;
 pub use laws::cycle_threshold_laws;
 pub use region_game::{RegionGame, values_for};
-pub use shared_games::{RegionGames, region_games};
+pub use shape_games::region_games;
+pub use shared_games::RegionGames;
 pub use thresholds::Thresholds;

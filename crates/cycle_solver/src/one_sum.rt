@@ -6,7 +6,7 @@ ghost use Rattle.cycle_solver.specs.Changes.{IsSomeChange, places_after};
 ghost use Rattle.cycle_solver.specs.Held.{IsSeen, IsSeenFor, enough};
 ghost use Rattle.cycle_solver.specs.inner.OneSum.{HasOneValue, HaveOneSum};
 
-use crate::asking::{ENOUGH, Present, value_with};
+use crate::asking::{ENOUGH, Present};
 use crate::changes::Change;
 use game_store::GameId;
 use go_grid::Colour;
@@ -42,8 +42,8 @@ fn has_one_value(present: &Present<'_>, change: Change) -> bool
     match change.stone {
         None => true,
         Some((k, place)) => is_same_id(
-            value_with(present.games.at(k), Colour::Black, ENOUGH, place),
-            value_with(present.games.at(k), Colour::White, ENOUGH, place),
+            present.games.value_with(k, Colour::Black, ENOUGH, place),
+            present.games.value_with(k, Colour::White, ENOUGH, place),
         ),
     }
 }

@@ -4,7 +4,8 @@ ghost use Rattle.std.specs.Prelude.{◌≡◌, ℕ, ◌+◌, ◌^◌, ◌<◌, �
 ghost use Rattle.game_store.specs.Meaning.{Extends};
 ghost use Rattle.local_graph.specs.LocalGraph.{MoreThan};
 ghost use Rattle.local_value.specs.BudgetValues.{IsReturnGraphOf};
-ghost use Rattle.cycle_solver.specs.Held.{IsGameOf, layers_for};
+ghost use Rattle.cycle_solver.specs.GameLists.{layers_for};
+ghost use Rattle.cycle_solver.specs.Held.{IsGameOf};
 ghost use Rattle.cycle_solver.specs.Games.{IsGraphWithin, IsRefusalOf, IsSolvedBy, MayBeSteady};
 
 use crate::faults::CycleError;

@@ -12,7 +12,7 @@ ghost use Rattle.cycle_solver.specs.inner.Asked.{AreAnswers};
 ghost use Rattle.cycle_solver.specs.inner.OneSum.{AreValuesOf};
 
 use crate::asked::{Answered, asked_margin};
-use crate::asking::{ENOUGH, Present, value_with};
+use crate::asking::{ENOUGH, Present};
 use crate::changes::Change;
 use crate::one_sum::{are_same_ids, is_one_behind};
 use endgame_solver::{margin_of, raised};
@@ -76,7 +76,7 @@ fn margin_after(
     match change.stone {
         None => margin_of(present.store, search, sum, change.purses, next),
         Some((k, place)) => {
-            let after = value_with(present.games.at(k), player, ENOUGH, place);
+            let after = present.games.value_with(k, player, ENOUGH, place);
             asked_margin(
                 present.store,
                 search,

@@ -1,6 +1,5 @@
-use Rattle.std.proofs.Common.{ℕ, ◌<◌, ◌↔◌, ◌∙◌, refl, subst, sym, length, slice_index, IsTrue}
+use Rattle.std.proofs.Common.{ℕ, ◌∙◌, refl, subst}
 use Rattle.local_graph.specs.declared.graph.Edge.{Edge}
-use Rattle.local_graph.specs.ReturnGraph.{IsReturningCaptureAt}
 use Rattle.whole_rules.specs.Purses.{paid_in}
 use Rattle.cycle_solver.specs.Held.{IsStoneEdge}
 use Rattle.cycle_solver.proofs.ChangeLaws.{have_edges, none_legal, stone_change}
@@ -17,16 +16,12 @@ returns-in_default c =
     (c.in_default.ensures {u = tt}))
 
 pub is_returning-requires-clause-place : goal.is_returning-requires-clause-place
-is_returning-requires-clause-place c =
-    let seen = c.args.present.now in
-    subst (λ game. slice_index seen.places.now c.in-Some.k < length game.graph.positions) (sym c.at.ensures)
-    ((have_edges c.requires).inside c.in-Some.k c.in-Some.ensures.known)
+is_returning-requires-clause-place c = (have_edges c.requires).inside c.in-Some.k c.in-Some.ensures.known
 
 pub is_returning-requires-clause-next : goal.is_returning-requires-clause-next
 is_returning-requires-clause-next c =
-    subst (λ game. c.in-Some.edge.next < length game.graph.positions) (sym c.at.ensures)
-    (stone_next c.requires.solved c.requires.at (subst (λ d. IsStoneEdge c.args.present.now.regions.now c.args.present.now.games.now c.args.present.now.places.now
-    d c.args.point c.in-Some.k c.in-Some.edge) c.side-side.ensures c.in-Some.ensures))
+    stone_next c.requires.solved c.requires.at (subst (λ d. IsStoneEdge c.args.present.now.regions.now c.args.present.now.games.now c.args.present.now.places.now
+    d c.args.point c.in-Some.k c.in-Some.edge) c.side-side.ensures c.in-Some.ensures)
 
 pub returns : goal.returns
 returns c =
@@ -34,6 +29,5 @@ returns c =
     stone_change seen c.requires
     (subst (λ d. IsStoneEdge seen.regions.now seen.games.now seen.places.now d c.args.point c.in-Some.k c.in-Some.edge) c.side-side.ensures c.in-Some.ensures)
     refl
-    (subst (λ game. IsTrue c.is_returning.result ↔ IsReturningCaptureAt c.in-Some.edge.colour game.graph.components (slice_index seen.places.now c.in-Some.k)
-    c.in-Some.edge) c.at.ensures c.is_returning.ensures)
+    c.is_returning.ensures
     (c.paid_in.ensures ∙ (λ i. paid_in (c.side-side.ensures i) (c.from.ensures i) (c.purses.ensures i)))

@@ -1,8 +1,7 @@
 use Rattle.std.proofs.Common.{◌+◌, ◌-◌, ◌∙◌, ◌≡◌, arith, below_more, get_or, length, min, set}
 use Rattle.std.proofs.lemmas.Bool.{both_ways}
 use Rattle.whole_budgets.specs.EnginePlay.{WinsWithList}
-use Rattle.cycle_solver.specs.GameLists.{game_at}
-use Rattle.cycle_solver.specs.Held.{layers_for}
+use Rattle.cycle_solver.specs.GameLists.{game_at, layers_for}
 use Rattle.cycle_solver.proofs.LeastLaws.{most_wins}
 use Rattle.cycle_solver.proofs.least_budgets.least_at.Goals as goal
 
@@ -31,7 +30,7 @@ pub returns-clause-least : goal.returns-clause-least
 returns-clause-least c =
     let seen = c.args.present.now in
     let layers : c.steady_budget-steady.result + 1 ≡ length (layers_for (game_at seen.games.now c.args.k) seen.whole.now.side) =
-    c.steady_budget-steady.ensures ∙ (λ i. length (layers_for (c.at.ensures i) (c.side.ensures i))) in
+    c.steady_budget-steady.ensures ∙ (λ i. length (layers_for (game_at seen.games.now c.args.k) (c.side.ensures i))) in
     let most : c.min-most.result ≡ min (get_or c.args.budgets.now c.args.k 0) (length (layers_for (game_at seen.games.now c.args.k) seen.whole.now.side) - 1) =
     omega (arith, c.min-most.ensures, layers) in
     record {

@@ -1,4 +1,4 @@
-use Rattle.cycle_solver.proofs.TranslateLaws.{same_all}
+use Rattle.cycle_solver.proofs.OneSumLaws.{same_all}
 use Rattle.cycle_solver.proofs.one_sum.are_same_ids.Goals as goal
 
 pub returns : goal.returns

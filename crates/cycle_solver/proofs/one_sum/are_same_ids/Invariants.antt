@@ -1,4 +1,4 @@
-use Rattle.cycle_solver.proofs.TranslateLaws.{AreSameBelow}
+use Rattle.cycle_solver.proofs.OneSumLaws.{AreSameBelow}
 use Rattle.cycle_solver.proofs.one_sum.are_same_ids.Given as goal
 
 abbrev pub invariant-places : goal.invariant-places

@@ -24,23 +24,30 @@ overflow_cast-result c =
     let few = few_points held.solved lt in
     omega (arith, c.len.ensures, points.ok, count, few)
 
-pub value_with-requires : goal.value_with-requires
-value_with-requires c =
-    let i = c.self.inside in
-    let n = c.args.i in
-    let held = c.self.invariant.0.held in
-    let lt = subst (λ v. n < length v.regions) (sym c.self.view_is) c.requires in
-    let shape : game_at i.games n ≡ c.at-2.result.now = sym c.at-2.ensures in
-    subst (λ game. 0 < length (ids_with game Black 255)) shape (opening_value held.solved lt Black)
+pub positions-requires : goal.positions-requires
+positions-requires c =
+    let lt = subst (λ v. c.args.i < length v.regions) (sym c.self.view_is) c.requires in
+    omega (arith, lt, c.self.invariant.0.held.solved.many)
 
-pub value_with-requires-2 : goal.value_with-requires-2
-value_with-requires-2 c =
-    let i = c.self.inside in
-    let n = c.args.i in
-    let held = c.self.invariant.0.held in
-    let lt = subst (λ v. n < length v.regions) (sym c.self.view_is) c.requires in
-    let shape : game_at i.games n ≡ c.at-3.result.now = sym c.at-3.ensures in
-    subst (λ game. 0 < length (ids_with game White 255)) shape (opening_value held.solved lt White)
+pub value_with-requires-clause-number : goal.value_with-requires-clause-number
+value_with-requires-clause-number c =
+    let lt = subst (λ v. c.args.i < length v.regions) (sym c.self.view_is) c.requires in
+    omega (arith, lt, c.self.invariant.0.held.solved.many)
+
+pub value_with-requires-clause-place : goal.value_with-requires-clause-place
+value_with-requires-clause-place c =
+    let lt = subst (λ v. c.args.i < length v.regions) (sym c.self.view_is) c.requires in
+    opening_value c.self.invariant.0.held.solved lt Black
+
+pub value_with-requires-2-clause-number : goal.value_with-requires-2-clause-number
+value_with-requires-2-clause-number c =
+    let lt = subst (λ v. c.args.i < length v.regions) (sym c.self.view_is) c.requires in
+    omega (arith, lt, c.self.invariant.0.held.solved.many)
+
+pub value_with-requires-2-clause-place : goal.value_with-requires-2-clause-place
+value_with-requires-2-clause-place c =
+    let lt = subst (λ v. c.args.i < length v.regions) (sym c.self.view_is) c.requires in
+    opening_value c.self.invariant.0.held.solved lt White
 
 pub returns-clause-report : goal.returns-clause-report
 returns-clause-report c =
@@ -54,19 +61,14 @@ returns-clause-report c =
     let shape : r ≡ c.index.result.now = get_or_default i.regions.items n no_region c.index.result.now lt ∙ sym c.index.ensures in
     let view = c.behind-self.view_is ∙ sym shape in
     let count : c.len.result ≡ length points.items = omega (arith, c.len.ensures, points.ok) in
-    let third : game_at i.games n ≡ c.at.result.now = sym c.at.ensures in
-    let fourth : game_at i.games n ≡ c.at-2.result.now = sym c.at-2.ensures in
-    let fifth : game_at i.games n ≡ c.at-3.result.now = sym c.at-3.ensures in
-    let low = ap (λ game. get_or (ids_with game Black 255) 0 0) fourth ∙ sym c.value_with.ensures in
-    let high = ap (λ game. get_or (ids_with game White 255) 0 0) fifth ∙ sym c.value_with-2.ensures in
     let report : CycleReport =
-    record { lowest = c.index-2.result.now; points = c.len.result; positions = c.positions_of.result; low = c.value_with.result; high = c.value_with-2.result } in
+    record { lowest = c.index-2.result.now; points = c.len.result; positions = c.positions.result; low = c.value_with.result; high = c.value_with-2.result } in
     subst (λ v. IsReport v.trees (region_at v.regions n) report) c.self.view_is record {
       lowest_point = c.index-2.ensures ∙ get_or_default points.items 0 c.index-2.result.now 0 c.behind-self.invariant.some ∙ ap (λ z. get_or z.points 0 0) view;
       points = count ∙ ap (λ z. length z.points) view;
-      positions = subst (IsNumberOfPositions r) (ap (λ game. length game.graph.positions) third ∙ sym c.positions_of.ensures) positions;
-      low = subst (IsSteadyId i.store r Black) low (opening_id held.solved lt Black);
-      high = subst (IsSteadyId i.store r White) high (opening_id held.solved lt White);
+      positions = subst (IsNumberOfPositions r) (sym c.positions.ensures) positions;
+      low = subst (IsSteadyId i.store r Black) (sym c.value_with.ensures) (opening_id held.solved lt Black);
+      high = subst (IsSteadyId i.store r White) (sym c.value_with-2.ensures) (opening_id held.solved lt White);
     }
 
 pub returns-clause-on_board : goal.returns-clause-on_board

@@ -1,0 +1,7 @@
+use Rattle.std.proofs.Common.{map}
+use Rattle.cycle_solver.specs.Turned.{own}
+use Rattle.cycle_solver.proofs.ChangeLaws.{NoOwnBefore}
+use Rattle.cycle_solver.proofs.shared_games.edge_in.Given as goal
+
+abbrev pub invariant-edges : goal.invariant-edges
+invariant-edges l = NoOwnBefore l.region l.view l.edges l.colour l.point l.edge-index
