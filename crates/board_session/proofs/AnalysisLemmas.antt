@@ -24,12 +24,12 @@ use Rattle.board_session.specs.declared.topic.Status.{Status}
 use Rattle.board_session.specs.declared.topic.Status.TheVariants as status
 use Rattle.board_session.specs.declared.topic.Topic.TheVariants as topic
 use Rattle.board_session.specs.declared.topic.Topic.{Topic}
-use Rattle.board_session.specs.Analysing.{Finds, FindsIn, FindsStones, FindsText, HasStatus, counted_setup, found, none_found, scoreless, score_finding}
+use Rattle.board_session.specs.Analysing.{Finds, FindsBy, FindsStones, FindsText, HasStatus, counted_setup, cycle_topic, found, none_found, scoreless, score_finding}
 use Rattle.board_session.specs.Generating.{unsettled_words}
 use Rattle.board_session.specs.Session.{done, finding_said, reply_text, unscored}
 use Rattle.board_session.specs.States.{BoardState, present}
 use Rattle.board_session.specs.Texts.{vertices_text}
-use Rattle.board_session.specs.inner.Analysing.{IsReported, RepliesIn, RepliesOn, RepliesStones, RepliesTo, ShowsText}
+use Rattle.board_session.specs.inner.Analysing.{IsReported, RepliesBy, RepliesIn, RepliesOn, RepliesStones, RepliesTo, ShowsText}
 
 -- a text that is shown is found
 pub text_found : {E : Type 0} (IsText : List ℕ → Type 0) (id text : List ℕ) (result : Result (List ℕ) E) → IsText text → IfOk result (ShowsText id text)
@@ -112,14 +112,15 @@ score_told regions w k id columns rows score (Ok reply) across down is says =
 score_told regions w k id columns rows score (Err e) across down is h = tt
 
 -- an analysis is reported
-pub game_reported : {E : Type 0} (limits : Limits) (about : Topic) (c : Colour) (x : Analysis) (s : BoardState) (setup : Setup) (id : List ℕ) (result : Result (List ℕ) E)
-    → x ≡ Game about c → setup ≡ counted_setup (present s) s.komi_halves c → IfOk result (RepliesIn limits about setup id) → IfOk result (IsReported limits x id s)
-game_reported limits about c x s setup id (Ok reply) asked is (finding, finds, says) =
-    (finding_said finding, (finding, subst (λ y. Finds limits y s finding) (sym asked) (subst (λ v. FindsIn limits about v finding) is finds), refl), says)
-game_reported limits about c x s setup id (Err e) asked is h = tt
+pub game_reported : {E : Type 0} (cycles : Bool) (limits : Limits) (about : Topic) (c : Colour) (x : Analysis) (s : BoardState) (setup : Setup) (id : List ℕ) (result : Result (List ℕ) E)
+    → x ≡ Game about c → setup ≡ counted_setup (present s) s.komi_halves c → IfOk result (RepliesBy (cycle_topic cycles about) limits about setup id)
+    → IfOk result (IsReported cycles limits x id s)
+game_reported cycles limits about c x s setup id (Ok reply) asked is (finding, finds, says) =
+    (finding_said finding, (finding, subst (λ y. Finds cycles limits y s finding) (sym asked) (subst (λ v. FindsBy (cycle_topic cycles about) limits about v finding) is finds), refl), says)
+game_reported cycles limits about c x s setup id (Err e) asked is h = tt
 
-pub stones_reported : {E : Type 0} (limits : Limits) (wanted : Status) (x : Analysis) (s : BoardState) (g : Board) (id : List ℕ) (result : Result (List ℕ) E)
-    → x ≡ Stones wanted → g ≡ (present s).board → IfOk result (RepliesStones wanted g id) → IfOk result (IsReported limits x id s)
-stones_reported limits wanted x s g id (Ok reply) asked is (finding, finds, says) =
-    (finding_said finding, (finding, subst (λ y. Finds limits y s finding) (sym asked) (subst (λ v. FindsStones wanted v finding) is finds), refl), says)
-stones_reported limits wanted x s g id (Err e) asked is h = tt
+pub stones_reported : {E : Type 0} (cycles : Bool) (limits : Limits) (wanted : Status) (x : Analysis) (s : BoardState) (g : Board) (id : List ℕ) (result : Result (List ℕ) E)
+    → x ≡ Stones wanted → g ≡ (present s).board → IfOk result (RepliesStones wanted g id) → IfOk result (IsReported cycles limits x id s)
+stones_reported cycles limits wanted x s g id (Ok reply) asked is (finding, finds, says) =
+    (finding_said finding, (finding, subst (λ y. Finds cycles limits y s finding) (sym asked) (subst (λ v. FindsStones wanted v finding) is finds), refl), says)
+stones_reported cycles limits wanted x s g id (Err e) asked is h = tt

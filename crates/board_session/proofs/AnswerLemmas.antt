@@ -92,7 +92,7 @@ module _ {E : Type 0} (limits : BoardLimits) (loads : Loads) (s u : BoardState) 
   suggested_obeyed files faults id order c asked (Err e) h = tt
 
   pub reported_obeyed : (files : Option Files) (faults : ℕ) (id : List ℕ) (order : BoardOrder) (x : Analysis) → order ≡ analyse x → (result : Result (List ℕ) E)
-      → IfOk result (IsReported (game_limits limits) x id s) → IfOk result (λ reply. IsObeyed files faults faults id order a reply a)
+      → IfOk result (IsReported limits.cycles (game_limits limits) x id s) → IfOk result (λ reply. IsObeyed files faults faults id order a reply a)
   reported_obeyed files faults id order x asked (Ok reply) (said, reports, text) =
       subst (λ v. IsObeyed files faults faults id order v reply v) is
       (subst (λ o. IsObeyed files faults faults id o (record { limits = limits; state = s; loads = loads }) reply (record { limits = limits; state = s; loads = loads })) (sym asked)

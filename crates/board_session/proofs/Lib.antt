@@ -12,3 +12,4 @@ pub mod CycleAdviceLemmas
 pub mod CycleLawLemmas
 pub mod SettledLemmas
 pub mod AnalysisLemmas
+pub mod CycleAnalysisLemmas

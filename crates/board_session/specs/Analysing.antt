@@ -1,5 +1,5 @@
 -- What analyses of a position tell: texts on the game that it opens, its score, and the stones of a status.
-use Rattle.std.specs.Prelude.{◌≡◌, ◌≢◌, ◌⊎◌, ◌+◌, ◌++◌, ◌∷◌, ℕ, zero, suc, ℤ, pos, negsuc, List, [], codes}
+use Rattle.std.specs.Prelude.{◌≡◌, ◌≢◌, ◌⊎◌, ◌+◌, ◌++◌, ◌∷◌, ℕ, zero, suc, ℤ, pos, negsuc, Bool, true, false, List, [], codes, Option, Some, None}
 use Rattle.board_words.specs.Komi.{komi_word}
 use Rattle.fault_words.specs.declared.naming.Naming.TheVariants.{Gtp}
 use Rattle.go_grid.specs.Board.{Board, IsEmpty}
@@ -16,15 +16,19 @@ use Rattle.endgame_solver.specs.Solved.{IsPlayable}
 use Rattle.report.specs.declared.score.Score.{Score}
 use Rattle.report.specs.declared.score.Score.TheVariants as points
 use Rattle.report.specs.Analysis.{IsLineText, IsMarginText, IsMovesText, name_on}
+use Rattle.report.specs.CycleAnalysis.{IsCycleMarginText, IsCycleMovesText}
 use Rattle.report.specs.Score.{IsScore}
 use Rattle.report.specs.TopStones.{IsTopText}
 use Rattle.board_session.specs.declared.position.Position.{Position}
 use Rattle.board_session.specs.declared.topic.Analysis.{Analysis}
 use Rattle.board_session.specs.declared.topic.Analysis.TheVariants.{Game, Stones}
+use Rattle.board_session.specs.declared.topic.CycleTopic.{CycleTopic}
+use Rattle.board_session.specs.declared.topic.CycleTopic.TheVariants as cycles
 use Rattle.board_session.specs.declared.topic.Status.{Status}
 use Rattle.board_session.specs.declared.topic.Status.TheVariants as status
 use Rattle.board_session.specs.declared.topic.Topic.{Topic}
 use Rattle.board_session.specs.declared.topic.Topic.TheVariants as topic
+use Rattle.board_session.specs.Cycles.{IsSteadyOpening, OpensNoneWithCycles}
 use Rattle.board_session.specs.Generating.{OpensNone, unsettled_words}
 use Rattle.board_session.specs.States.{BoardState, present}
 use Rattle.board_session.specs.Tallies.{Tally}
@@ -95,6 +99,29 @@ FindsIn limits topic setup finding = (IsSettled setup.board
     × ((w : Whole) × (playable : IsPlayable limits setup w) × FindsOn topic playable.regions w setup.komi_halves finding))
     ⊎ ((words : List ℕ) × OpensNone limits setup no_passes words × (finding ≡ none_found topic words))
 
+-- what is found on the topic of a state that opens with this komi, and in which kos can arise
+abbrev pub FindsOnWithCycles : CycleTopic → Whole → ℤ → Finding → Type 0
+FindsOnWithCycles cycles.Margin w k finding = FindsText (IsCycleMarginText w k) finding
+FindsOnWithCycles cycles.Moves w k finding = FindsText (IsCycleMovesText (name_on Gtp w.board) w k) finding
+
+-- what is found on the topic of the game with cycles that the position opens, or why it opens none
+abbrev pub FindsInWithCycles : Limits → CycleTopic → Setup → Finding → Type 0
+FindsInWithCycles limits topic setup finding = (IsSettled setup.board
+    × ((w : Whole) × IsSteadyOpening limits setup w × FindsOnWithCycles topic w setup.komi_halves finding))
+    ⊎ ((words : List ℕ) × OpensNoneWithCycles limits setup no_passes words × (finding ≡ gameless words))
+
+-- the topic that a game with cycles tells, where they are admitted
+abbrev pub cycle_topic : Bool → Topic → Option CycleTopic
+cycle_topic false topic = None
+cycle_topic true topic.Margin = Some cycles.Margin
+cycle_topic true topic.Moves = Some cycles.Moves
+cycle_topic true topic = None
+
+-- what is found on the topic, by a game with cycles where such a game tells it
+abbrev pub FindsBy : Option CycleTopic → Limits → Topic → Setup → Finding → Type 0
+FindsBy None limits topic setup finding = FindsIn limits topic setup finding
+FindsBy (Some told) limits topic setup finding = FindsInWithCycles limits told setup finding
+
 -- the stone at the point has the status: it lives without answers, or stands on a point that is counted, or is in seki, as none is
 abbrev pub HasStatus : Status → Board → ℕ → Type 0
 HasStatus status.Alive g p = (c : Colour) × IsAlive g c p
@@ -107,7 +134,7 @@ FindsStones x g finding =
     (IsSettled g × ((points : List ℕ) × Lists points (HasStatus x g) × (finding ≡ found (vertices_text g.columns g.rows points))))
     ⊎ ((p : ℕ) × IsFirstUnsettled g p × (finding ≡ scoreless (unsettled_words g p)))
 
--- what the analysis finds in the state
-abbrev pub Finds : Limits → Analysis → BoardState → Finding → Type 0
-Finds limits (Game topic c) s finding = FindsIn limits topic (counted_setup (present s) s.komi_halves c) finding
-Finds limits (Stones x) s finding = FindsStones x (present s).board finding
+-- what the analysis finds in the state, with cycles admitted or without
+abbrev pub Finds : Bool → Limits → Analysis → BoardState → Finding → Type 0
+Finds cycles limits (Game topic c) s finding = FindsBy (cycle_topic cycles topic) limits topic (counted_setup (present s) s.komi_halves c) finding
+Finds cycles limits (Stones x) s finding = FindsStones x (present s).board finding

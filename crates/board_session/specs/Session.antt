@@ -86,9 +86,9 @@ Generates cycles limits c s said u = (a : Advice) × TellsIn cycles limits s c a
 abbrev pub Suggests : Bool → Limits → Colour → BoardState → Said → Type 0
 Suggests cycles limits c s said = (a : Advice) × TellsIn cycles limits s c a × (said ≡ advice_said (present s).board.columns (present s).board.rows a)
 
--- what the analysis finds is said
-abbrev pub Reports : Limits → Analysis → BoardState → Said → Type 0
-Reports limits x s said = (finding : Finding) × Finds limits x s finding × (said ≡ finding_said finding)
+-- what the analysis finds, with cycles admitted or without, is said
+abbrev pub Reports : Bool → Limits → Analysis → BoardState → Said → Type 0
+Reports cycles limits x s said = (finding : Finding) × Finds cycles limits x s finding × (said ≡ finding_said finding)
 
 -- the text of a part of the state
 abbrev pub answer_text : Question → BoardState → List ℕ
@@ -178,7 +178,7 @@ abbrev pub Obeys : BoardLimits → Option Files → BoardOrder → Fate → Boar
 Obeys limits files (loadsgf file after) fate s said u = TakesFile (load_settings limits.territory after) files file fate s said u
 Obeys limits files (genmove c) fate s said u = (fate ≡ no_load) × Generates limits.cycles (game_limits limits) c s said u
 Obeys limits files (reg_genmove c) fate s said u = (fate ≡ no_load) × Suggests limits.cycles (game_limits limits) c s said × (u ≡ s)
-Obeys limits files (analyse x) fate s said u = (fate ≡ no_load) × Reports (game_limits limits) x s said × (u ≡ s)
+Obeys limits files (analyse x) fate s said u = (fate ≡ no_load) × Reports limits.cycles (game_limits limits) x s said × (u ≡ s)
 Obeys limits files order fate s said u = (fate ≡ no_load) × Does order s said u
 
 -- what is done on what the words ask for

@@ -9,17 +9,18 @@ ghost use Rattle.region_cut.specs.Cut.{AreRegionsOfPlay};
 ghost use Rattle.sgf_go.specs.Position.{IsFit};
 ghost use Rattle.endgame_solver.specs.Faults.{most_steps};
 ghost use Rattle.report.specs.Score.{CanBeTold};
-ghost use Rattle.board_session.specs.Analysing.{IsShown, IsSpace, counted_setup, found, gameless, none_found, score_finding, score_text};
+ghost use Rattle.board_session.specs.Analysing.{IsShown, IsSpace, counted_setup, cycle_topic, found, gameless, none_found, score_finding, score_text};
 ghost use Rattle.board_session.specs.Kept.{IsModest};
 ghost use Rattle.board_session.specs.Session.{finding_said, reply_text};
 ghost use Rattle.board_session.specs.States.{present};
-ghost use Rattle.board_session.specs.inner.Analysing.{IsReported, RepliesIn, RepliesOn, ShowsText};
+ghost use Rattle.board_session.specs.inner.Analysing.{IsReported, RepliesBy, RepliesIn, RepliesOn, ShowsText};
 
 use crate::advice::unsettled_words;
+use crate::cycle_analysis::reply_with_cycles;
 use crate::refusal::{accept, refuse_unscored, refuse_unsolved};
 use crate::session::BoardSession;
 use crate::statuses::report_stones;
-use crate::topic::{Analysis, Topic};
+use crate::topic::{Analysis, Topic, cycle_topic};
 use board_words::write_komi_word;
 use endgame_solver::{Limits, Solved};
 use fault_words::{Naming, fault_words};
@@ -54,7 +55,7 @@ fn shown(text: &[u8]) -> &[u8]
 }
 
 /// The reply that shows a text.
-fn show(alloc: Global, id: &[u8], text: &[u8]) -> Result<ItemList<u8>, AllocError>
+pub(crate) fn show(alloc: Global, id: &[u8], text: &[u8]) -> Result<ItemList<u8>, AllocError>
     ensures { IfOk result (ShowsText id.now text.now) }
 {
     accept(alloc, id, shown(text))
@@ -267,6 +268,32 @@ fn reply_in<L: Ledger>(
     reply_settled(alloc, id, topic, setup, limits, steps)
 }
 
+/// The reply on a topic of a position, with cycles admitted or without.
+fn reply_by<L: Ledger>(
+    alloc: Global,
+    id: &[u8],
+    topic: Topic,
+    setup: &Setup,
+    limits: &Limits,
+    cycles: bool,
+    steps: &mut Steps<L>,
+) -> Result<ItemList<u8>, AllocError>
+    requires black { setup.now.black_prisoners < 2 ^ 40 }
+    requires white { setup.now.white_prisoners < 2 ^ 40 }
+    requires komi { IsModest setup.now.komi_halves }
+    requires untaxed { limits.now.tax ≡ false }
+    requires positions { limits.now.positions ≤ MOST_POSITIONS }
+    ensures replied { IfOk result (RepliesBy (cycle_topic cycles topic) limits.now topic
+        setup.now id.now) }
+    ensures steps { (regions : List Region) → AreRegionsOfPlay setup.now.board regions
+        → steps.new ≤ steps.old + most_steps limits.now regions }
+{
+    match cycle_topic(cycles, topic) {
+        Some(told) => reply_with_cycles(alloc, id, told, setup, limits, steps),
+        None => reply_in(alloc, id, topic, setup, limits, steps),
+    }
+}
+
 impl BoardSession {
     /// The position on the board with the colour to move, in which each pass has handed the other colour a prisoner.
     fn counted_setup(&self, colour: Colour) -> Result<Setup, AllocError>
@@ -294,12 +321,14 @@ impl BoardSession {
         id: &[u8],
         analysis: Analysis,
         limits: &Limits,
+        cycles: bool,
         steps: &mut Steps<L>,
     ) -> Result<ItemList<u8>, AllocError>
         requires few { length self.now.moves < MOST_LINES }
         requires untaxed { limits.now.tax ≡ false }
         requires positions { limits.now.positions ≤ MOST_POSITIONS }
-        ensures reported { IfOk result (IsReported limits.now analysis id.now self.now) }
+        ensures reported { IfOk result (IsReported cycles limits.now analysis id.now
+            self.now) }
         ensures steps { (regions : List Region)
             → AreRegionsOfPlay (present self.now).board regions
             → steps.new ≤ steps.old + most_steps limits.now regions }
@@ -308,7 +337,7 @@ impl BoardSession {
         match analysis {
             Analysis::Game(topic, colour) => {
                 let setup = self.counted_setup(colour)?;
-                reply_in(alloc, id, topic, &setup, limits, steps)
+                reply_by(alloc, id, topic, &setup, limits, cycles, steps)
             }
             Analysis::Stones(status) => report_stones(alloc, id, &self.present().board, status),
         }

@@ -39,7 +39,7 @@ fn captures_words(alloc: Global, size: Size, lowest: Point) -> Result<String, Al
 }
 
 /// The words on a fault of a position whose board has the size, or the want of memory that it is.
-fn words_of(
+pub(crate) fn words_of(
     alloc: Global,
     size: Size,
     limits: &Limits,

@@ -168,7 +168,8 @@ impl BoardEngine {
             }
             Request::Analyse(analysis) => {
                 let limits = self.limits.of_game();
-                self.session.report(id, analysis, &limits, steps)
+                self.session
+                    .report(id, analysis, &limits, self.limits.cycles, steps)
             }
             plain => self.session.obey(id, plain),
         }

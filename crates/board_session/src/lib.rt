@@ -7,6 +7,7 @@ mod answers;
 mod board_text;
 mod command;
 mod cycle_advice;
+mod cycle_analysis;
 mod engine;
 mod generating;
 mod handicap;

@@ -1,6 +1,7 @@
 //! What analyses of a position tell.
 
 ghost use Rattle.std.specs.Prelude.{◌≡◌, ◌≢◌, IfSome, IfNone};
+ghost use Rattle.board_session.specs.Analysing.{cycle_topic};
 ghost use Rattle.board_session.specs.Orders.{status_word};
 ghost use Rattle.board_session.specs.declared.topic.Status.{Status};
 
@@ -16,6 +17,13 @@ pub(crate) enum Topic {
     Line,
     /// The score of a finished game.
     Score,
+}
+
+/// What a game in which kos can arise tells.
+#[derive(Clone, Copy, Debug, PartialEq, Eq)]
+pub(crate) enum CycleTopic {
+    Margin,
+    Moves,
 }
 
 /// What stones of a finished game are.
@@ -43,5 +51,19 @@ pub(crate) fn read_status(word: &[u8]) -> Option<Status>
         b"dead" => Some(Status::Dead),
         b"seki" => Some(Status::Seki),
         _ => None,
+    }
+}
+
+/// The topic that a game with cycles tells, where they are admitted.
+pub(crate) fn cycle_topic(cycles: bool, topic: Topic) -> Option<CycleTopic>
+    ensures { result ≡ cycle_topic cycles topic }
+{
+    if !cycles {
+        return None;
+    }
+    match topic {
+        Topic::Margin => Some(CycleTopic::Margin),
+        Topic::Moves => Some(CycleTopic::Moves),
+        Topic::Best | Topic::Line | Topic::Score => None,
     }
 }

@@ -14,6 +14,8 @@ use Rattle.cycle_solver.specs.Begun.{Begun}
 use Rattle.cycle_solver.specs.CycleFaults.{AreRefused, AreSteadyWithin}
 use Rattle.cycle_solver.specs.declared.faults.CycleError.{CycleError}
 use Rattle.cycle_solver.specs.declared.faults.CycleError.TheVariants.{Points, Positions, Form, Captures, Memory}
+use Rattle.fault_words.specs.declared.naming.Naming.TheVariants.{Letters}
+use Rattle.report.specs.Analysis.{name_on}
 use Rattle.report.specs.CycleAnalysis.{IsCycleMarginText, IsCycleMovesText}
 use Rattle.report.specs.CycleSolution.{IsCycleSolveText}
 use Rattle.report.specs.CycleValues.{HasShownValues, IsCycleValuesText, IsFirstCycleUnshown}
@@ -34,7 +36,7 @@ abbrev pub IsGameText : CycleQuestion → ℤ → Solved → List ℕ → Type 0
 IsGameText Solve k game text = IsCycleSolveText game text
 IsGameText Values k game text = IsCycleValuesText game.state.board.columns game.regions text
 IsGameText Margin k game text = IsCycleMarginText game.state k text
-IsGameText Moves k game text = IsCycleMovesText game.state k text
+IsGameText Moves k game text = IsCycleMovesText (name_on Letters game.state.board) game.state k text
 
 -- the text that answers a question about a position, within the limits
 pub record IsCycleText (question : CycleQuestion) (limits : Limits) (setup : Setup) (text : List ℕ) : Type 0 where

@@ -20,6 +20,7 @@ use crate::status::Status;
 use cycle_solver::{CycleError, CycleGame};
 use endgame_solver::Limits;
 use engine_player::MOST_CAPTURES;
+use fault_words::Naming;
 use game_text::Text;
 use gd_words::CycleQuestion;
 use go_grid::Size;
@@ -94,7 +95,7 @@ fn report_game(
         CycleQuestion::Values => return report_values(alloc, game),
         CycleQuestion::Solve => cycle_solve_text(alloc, game)?,
         CycleQuestion::Margin => cycle_margin_text(alloc, game, komi_halves)?,
-        CycleQuestion::Moves => cycle_moves_text(alloc, game, komi_halves)?,
+        CycleQuestion::Moves => cycle_moves_text(alloc, Naming::Letters, game, komi_halves)?,
     };
     Ok(Report {
         status: Status::Done,

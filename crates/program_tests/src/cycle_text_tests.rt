@@ -3,6 +3,7 @@
 use crate::cycle_game_tests::begin;
 use crate::solved_tests::{ENDLESS, Game, LIMITS, ONE_OPEN};
 use cycle_solver::{CycleError, CycleGame};
+use fault_words::Naming;
 use go_grid::Colour;
 use report::{cycle_margin_text, cycle_moves_text, cycle_values_text};
 use std::alloc::Global;
@@ -98,7 +99,7 @@ fn has_margin(alloc: Global, game: &mut CycleGame, komi: i64, wanted: &str) -> b
 
 /// Whether the text of `moves` is this.
 fn has_moves(alloc: Global, game: &mut CycleGame, komi: i64, wanted: &str) -> bool {
-    match cycle_moves_text(alloc, game, komi) {
+    match cycle_moves_text(alloc, Naming::Letters, game, komi) {
         Ok(text) => text.as_slice() == wanted.as_bytes(),
         Err(_fault) => false,
     }

@@ -25,34 +25,35 @@ cycle_thresholds_are s k b w before now after black white first second = record 
       ∙ append_assoc before (thresholds_line (codes "black first") b) (thresholds_line (codes "white first") w);
 }
 
-pub no_cycle_stone : (s : Whole) (k : ℤ) (p : ℕ) (text : List ℕ) → ¬ IsLegal s (Stone p) → HasCycleStone s k p text text
-no_cycle_stone s k p text illegal = record { said = []; is = inl (illegal, refl); text = sym (append-nil text) }
+pub no_cycle_stone : (name : ℕ → List ℕ) (s : Whole) (k : ℤ) (p : ℕ) (text : List ℕ) → ¬ IsLegal s (Stone p) → HasCycleStone name s k p text text
+no_cycle_stone name s k p text illegal = record { said = []; is = inl (illegal, refl); text = sym (append-nil text) }
 
-pub cycle_stone_is : (s : Whole) (k : ℤ) (p columns : ℕ) (side : Colour) (winner : Option Colour) (both : Thresholds) (word before now : List ℕ) → IsLegal s (Stone p)
-    → TellsWinnerAfter s (Stone p) winner → AreThresholdsFrom s k s.side (p ∷ []) both → word ≡ cycle_outcome_word side winner → side ≡ s.side → columns ≡ s.board.columns
-    → now ≡ before ++ cycle_stone_line columns p word both → HasCycleStone s k p before now
-cycle_stone_is s k p columns side winner both word before now legal wins thresholds named turn on line = record {
-  said = cycle_stone_line s.board.columns p (cycle_outcome_word s.side winner) both;
+pub cycle_stone_is : (name name' : ℕ → List ℕ) (s : Whole) (k : ℤ) (p : ℕ) (side : Colour) (winner : Option Colour) (both : Thresholds) (word before now : List ℕ) → IsLegal s (Stone p)
+    → TellsWinnerAfter s (Stone p) winner → AreThresholdsFrom s k s.side (p ∷ []) both → word ≡ cycle_outcome_word side winner → side ≡ s.side → name' ≡ name
+    → now ≡ before ++ cycle_stone_line name' p word both → HasCycleStone name s k p before now
+cycle_stone_is name name' s k p side winner both word before now legal wins thresholds said turn named line = record {
+  said = cycle_stone_line name p (cycle_outcome_word s.side winner) both;
   is = inr (legal, (winner, (both, wins, thresholds, refl)));
-  text = line ∙ (λ i. before ++ cycle_stone_line (on i) p (named i) both) ∙ ap (λ c. before ++ cycle_stone_line s.board.columns p (cycle_outcome_word c winner) both) turn;
+  text = line ∙ (λ i. before ++ cycle_stone_line (named i) p (said i) both) ∙ ap (λ c. before ++ cycle_stone_line name p (cycle_outcome_word c winner) both) turn;
 }
 
 -- one point more
-pub cycle_stones_more : (s : Whole) (k : ℤ) (n : ℕ) (a b c : List ℕ) → HasCycleStones s k n a b → HasCycleStone s k n b c → HasCycleStones s k (n + 1) a c
-cycle_stones_more s k n a b c before last = record {
+pub cycle_stones_more : (name : ℕ → List ℕ) (s : Whole) (k : ℤ) (n : ℕ) (a b c : List ℕ) → HasCycleStones name s k n a b → HasCycleStone name s k n b c
+    → HasCycleStones name s k (n + 1) a c
+cycle_stones_more name s k n a b c before last = record {
   said = before.said ++ last.said;
-  are = subst (λ m. AreCycleStoneTexts s k m (before.said ++ last.said)) next both;
+  are = subst (λ m. AreCycleStoneTexts name s k m (before.said ++ last.said)) next both;
   text = last.text ∙ ap (λ t. t ++ last.said) before.text ∙ append_assoc a before.said last.said;
 }
   where
     next : suc n ≡ n + 1
     next = omega arith
 
-    both : AreCycleStoneTexts s k (suc n) (before.said ++ last.said)
+    both : AreCycleStoneTexts name s k (suc n) (before.said ++ last.said)
     both = (before.said, last.said, before.are, last.is, refl)
 
-pub no_cycle_stones : (s : Whole) (k : ℤ) (text : List ℕ) → HasCycleStones s k 0 text text
-no_cycle_stones s k text = record { said = []; are = refl; text = sym (append-nil text) }
+pub no_cycle_stones : (name : ℕ → List ℕ) (s : Whole) (k : ℤ) (text : List ℕ) → HasCycleStones name s k 0 text text
+no_cycle_stones name s k text = record { said = []; are = refl; text = sym (append-nil text) }
 
 pub no_cycle_move : (s : Whole) (m : Move) (label text : List ℕ) → ¬ IsLegal s m → HasCycleMove s m label text text
 no_cycle_move s m label text illegal = record { said = []; is = inl (illegal, refl); text = sym (append-nil text) }
@@ -77,9 +78,10 @@ cycle_margin_is s k a b c d empty opening firsts same = record {
       (opening.text ∙ ap (λ t. t ++ cycle_opening_lines s.side k opening.winner) empty);
 }
 
-pub cycle_moves_are : (s : Whole) (k : ℤ) (a b c d e f : List ℕ) → a ≡ [] → HasCycleOpening s k a b → HasCycleStones s k (length s.board.cells) b c
-    → HasCycleMove s Spend (codes "spend") c d → HasCycleMove s Half (codes "half") d e → f ≡ e → IsCycleMovesText s k f
-cycle_moves_are s k a b c d e f empty opening stones spend half same = record {
+pub cycle_moves_are : (name : ℕ → List ℕ) (s : Whole) (k : ℤ) (a b c d e f : List ℕ) → a ≡ [] → HasCycleOpening s k a b
+    → HasCycleStones name s k (length s.board.cells) b c → HasCycleMove s Spend (codes "spend") c d → HasCycleMove s Half (codes "half") d e → f ≡ e
+    → IsCycleMovesText name s k f
+cycle_moves_are name s k a b c d e f empty opening stones spend half same = record {
   winner = opening.winner;
   stones = stones.said;
   spend = spend.said;

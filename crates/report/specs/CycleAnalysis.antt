@@ -2,7 +2,6 @@
 use Rattle.std.specs.Prelude.{ℕ, zero, suc, ℤ, ◌≡◌, ◌⊎◌, ◌++◌, List, [], ◌∷◌, length, codes, Option, Some, None}
 use Rattle.go_grid.specs.declared.grid.Colour.{Colour}
 use Rattle.go_grid.specs.declared.grid.Colour.TheVariants.{Black, White}
-use Rattle.go_grid.specs.Name.{point_name}
 use Rattle.whole_rules.specs.declared.states.Move.{Move}
 use Rattle.whole_rules.specs.declared.states.Move.TheVariants.{Stone, Spend, Half}
 use Rattle.whole_rules.specs.WholeGame.{Whole, IsLegal}
@@ -43,19 +42,20 @@ cycle_outcome_word White (Some White) = codes "wins"
 cycle_outcome_word side (Some winner) = codes "loses"
 
 -- the line of a stone: its point, whether it wins, and both thresholds
-unfoldable pub cycle_stone_line : ℕ → ℕ → List ℕ → Thresholds → List ℕ
-cycle_stone_line columns p word both = codes "stone " ++ (point_name columns p ++ (codes " " ++ thresholds_line word both))
+unfoldable pub cycle_stone_line : (ℕ → List ℕ) → ℕ → List ℕ → Thresholds → List ℕ
+cycle_stone_line name p word both = codes "stone " ++ (name p ++ (codes " " ++ thresholds_line word both))
 
 -- what is said of a stone of the side to move: a line where it is legal, and else nothing
-abbrev pub IsCycleStoneText : Whole → ℤ → ℕ → List ℕ → Type 0
-IsCycleStoneText s k p text = (¬ IsLegal s (Stone p) × (text ≡ []))
+abbrev pub IsCycleStoneText : (ℕ → List ℕ) → Whole → ℤ → ℕ → List ℕ → Type 0
+IsCycleStoneText name s k p text = (¬ IsLegal s (Stone p) × (text ≡ []))
     ⊎ (IsLegal s (Stone p) × ((winner : Option Colour) × ((both : Thresholds) × TellsWinnerAfter s (Stone p) winner
-    × AreThresholdsFrom s k s.side (p ∷ []) both × (text ≡ cycle_stone_line s.board.columns p (cycle_outcome_word s.side winner) both))))
+    × AreThresholdsFrom s k s.side (p ∷ []) both × (text ≡ cycle_stone_line name p (cycle_outcome_word s.side winner) both))))
 
 -- what is said of the stones at the first n points, in their order
-abbrev pub AreCycleStoneTexts : Whole → ℤ → ℕ → List ℕ → Type 0
-AreCycleStoneTexts s k zero text = text ≡ []
-AreCycleStoneTexts s k (suc n) text = (before last : List ℕ) × AreCycleStoneTexts s k n before × IsCycleStoneText s k n last × (text ≡ before ++ last)
+abbrev pub AreCycleStoneTexts : (ℕ → List ℕ) → Whole → ℤ → ℕ → List ℕ → Type 0
+AreCycleStoneTexts name s k zero text = text ≡ []
+AreCycleStoneTexts name s k (suc n) text =
+    (before last : List ℕ) × AreCycleStoneTexts name s k n before × IsCycleStoneText name s k n last × (text ≡ before ++ last)
 
 -- what is said of a move that is no stone: a line where it is legal, and else nothing
 abbrev pub IsCycleMoveText : Whole → Move → List ℕ → List ℕ → Type 0
@@ -63,13 +63,13 @@ IsCycleMoveText s m label text = (¬ IsLegal s m × (text ≡ []))
     ⊎ (IsLegal s m × ((winner : Option Colour) × TellsWinnerAfter s m winner × (text ≡ word_line label (cycle_outcome_word s.side winner))))
 
 -- the text of `moves` for a state that opens with this komi
-pub record IsCycleMovesText (s : Whole) (k : ℤ) (text : List ℕ) : Type 0 where
+pub record IsCycleMovesText (name : ℕ → List ℕ) (s : Whole) (k : ℤ) (text : List ℕ) : Type 0 where
   pub winner : Option Colour
   pub stones : List ℕ
   pub spend : List ℕ
   pub half : List ℕ
   pub wins : TellsWinner s winner
-  pub each_stone : AreCycleStoneTexts s k (length s.board.cells) stones
+  pub each_stone : AreCycleStoneTexts name s k (length s.board.cells) stones
   pub of_spend : IsCycleMoveText s Spend (codes "spend") spend
   pub of_half : IsCycleMoveText s Half (codes "half") half
   pub is : text ≡ cycle_opening_lines s.side k winner ++ (stones ++ (spend ++ half))

@@ -1,13 +1,16 @@
 //! The texts of `margin` and `moves` where kos can arise.
 
 ghost use Rattle.std.specs.Prelude.{◌≡◌, ◌<◌, ◌*◌, ◌++◌, OnOk, IfOk, length, string_bytes};
+ghost use Rattle.fault_words.specs.Naming.{name_by};
+ghost use Rattle.report.specs.Analysis.{name_on};
 ghost use Rattle.report.specs.CycleAnalysis.{IsCycleMarginText, IsCycleMovesText, cycle_opening_lines, cycle_outcome_word, cycle_stone_line, thresholds_line};
 ghost use Rattle.report.specs.inner.CycleAnalysis.{HasCycleMove, HasCycleOpening, HasCycleStone, HasCycleStones, HasCycleThresholds};
 
 use crate::cycle_solution::write_winner;
 use crate::komi::{write_komi, write_komi_pair};
-use board_words::{colour_word, write_name, write_words};
+use board_words::{colour_word, write_words};
 use cycle_solver::{CycleGame, Thresholds};
+use fault_words::{Naming, write_point_name};
 use game_text::Text;
 use go_grid::{Colour, Point, Size};
 use std::alloc::{AllocError, Global};
@@ -86,7 +89,9 @@ fn outcome_word(side: Colour, winner: Option<Colour>) -> &'static str
 /// Appends the line of a stone.
 #[tactic(auto, using(std::proofs::Common::append_assoc), unfolding(crate::specs::CycleAnalysis::cycle_stone_line))]
 fn write_stone_line(
+    alloc: Global,
     text: &mut String,
+    naming: Naming,
     size: Size,
     point: Point,
     word: &str,
@@ -94,24 +99,27 @@ fn write_stone_line(
 ) -> Result<(), AllocError>
     requires { point < size.columns * size.rows }
     ensures { OnOk result (string_bytes text.new
-        ≡ string_bytes text.old ++ cycle_stone_line size.columns point word.now both) }
+        ≡ string_bytes text.old ++ cycle_stone_line
+        (name_by naming size.columns size.rows) point word.now both) }
 {
     text.push_str("stone ")?;
-    write_name(text, size, point)?;
+    write_point_name(alloc, text, naming, size, point)?;
     text.push_str(" ")?;
     write_both(text, word, both)
 }
 
 /// Appends the line of a stone of the side to move, or nothing where the stone is illegal.
 fn write_stone(
+    alloc: Global,
     text: &mut String,
+    naming: Naming,
     game: &mut CycleGame,
     komi_halves: i64,
     point: Point,
 ) -> Result<(), AllocError>
     requires { point < length game.old.state.board.cells }
-    ensures stone { OnOk result (HasCycleStone game.old.state komi_halves point
-        (string_bytes text.old) (string_bytes text.new)) }
+    ensures stone { OnOk result (HasCycleStone (name_on naming game.old.state.board)
+        game.old.state komi_halves point (string_bytes text.old) (string_bytes text.new)) }
     ensures same { game.new ≡ game.old }
 {
     let size = game.whole().board().size();
@@ -122,18 +130,26 @@ fn write_stone(
     let Some(winner) = game.winner_after(Move::Stone(point)) else {
         return Ok(());
     };
-    write_stone_line(text, size, point, outcome_word(side, winner), both)?;
+    let word = outcome_word(side, winner);
+    write_stone_line(alloc, text, naming, size, point, word, both)?;
     Ok(())
 }
 
 /// Appends the lines of the legal stones, by point.
-fn write_stones(text: &mut String, game: &mut CycleGame, komi_halves: i64) -> Result<(), AllocError>
-    ensures stones { OnOk result (HasCycleStones game.old.state komi_halves
-        (length game.old.state.board.cells) (string_bytes text.old) (string_bytes text.new)) }
+fn write_stones(
+    alloc: Global,
+    text: &mut String,
+    naming: Naming,
+    game: &mut CycleGame,
+    komi_halves: i64,
+) -> Result<(), AllocError>
+    ensures stones { OnOk result (HasCycleStones (name_on naming game.old.state.board)
+        game.old.state komi_halves (length game.old.state.board.cells)
+        (string_bytes text.old) (string_bytes text.new)) }
     ensures same { game.new ≡ game.old }
 {
     'writing: for number in 0..game.whole().board().size().area() {
-        write_stone(text, game, komi_halves, Point(number))?;
+        write_stone(alloc, text, naming, game, komi_halves, Point(number))?;
     }
     Ok(())
 }
@@ -175,15 +191,17 @@ pub fn cycle_margin_text(
 /// The text of `moves` for a game with cycles that opens with this komi in half-points.
 pub fn cycle_moves_text(
     alloc: Global,
+    naming: Naming,
     game: &mut CycleGame,
     komi_halves: i64,
 ) -> Result<Text, AllocError>
-    ensures text { IfOk result (λ text. IsCycleMovesText game.old.state komi_halves text) }
+    ensures text { IfOk result (λ text. IsCycleMovesText
+        (name_on naming game.old.state.board) game.old.state komi_halves text) }
     ensures same { game.new ≡ game.old }
 {
     let mut text = String::new(alloc);
     write_game_opening(&mut text, game, komi_halves)?;
-    write_stones(&mut text, game, komi_halves)?;
+    write_stones(alloc, &mut text, naming, game, komi_halves)?;
     write_other(&mut text, game, Move::Spend, "spend")?;
     write_other(&mut text, game, Move::Half, "half")?;
     Ok(Text::from(text))

@@ -1,14 +1,15 @@
 -- The replies to analyses.
-use Rattle.std.specs.Prelude.{◌≡◌, ℕ, ℤ, List}
+use Rattle.std.specs.Prelude.{◌≡◌, ℕ, ℤ, Bool, List, Option}
 use Rattle.go_grid.specs.Board.{Board}
 use Rattle.go_grid.specs.Region.{Region}
 use Rattle.sgf_go.specs.declared.settings.Setup.{Setup}
 use Rattle.whole_rules.specs.WholeGame.{Whole}
 use Rattle.endgame_solver.specs.declared.limits.Limits.{Limits}
 use Rattle.board_session.specs.declared.topic.Analysis.{Analysis}
+use Rattle.board_session.specs.declared.topic.CycleTopic.{CycleTopic}
 use Rattle.board_session.specs.declared.topic.Status.{Status}
 use Rattle.board_session.specs.declared.topic.Topic.{Topic}
-use Rattle.board_session.specs.Analysing.{Finding, FindsIn, FindsOn, FindsStones, IsShown}
+use Rattle.board_session.specs.Analysing.{Finding, FindsBy, FindsIn, FindsInWithCycles, FindsOn, FindsOnWithCycles, FindsStones, IsShown}
 use Rattle.board_session.specs.Session.{Reports, Said, done, finding_said, reply_text}
 use Rattle.board_session.specs.States.{BoardState}
 
@@ -28,10 +29,22 @@ RepliesOn topic regions w k = RepliesTo (FindsOn topic regions w k)
 abbrev pub RepliesIn : Limits → Topic → Setup → List ℕ → List ℕ → Type 0
 RepliesIn limits topic setup = RepliesTo (FindsIn limits topic setup)
 
+-- the reply on a topic of a state that opens with this komi, and in which kos can arise
+abbrev pub RepliesOnWithCycles : CycleTopic → Whole → ℤ → List ℕ → List ℕ → Type 0
+RepliesOnWithCycles topic w k = RepliesTo (FindsOnWithCycles topic w k)
+
+-- the reply on a topic of a position in which kos can arise
+abbrev pub RepliesInWithCycles : Limits → CycleTopic → Setup → List ℕ → List ℕ → Type 0
+RepliesInWithCycles limits topic setup = RepliesTo (FindsInWithCycles limits topic setup)
+
+-- the reply on a topic of a position, by a game with cycles where such a game tells it
+abbrev pub RepliesBy : Option CycleTopic → Limits → Topic → Setup → List ℕ → List ℕ → Type 0
+RepliesBy told limits topic setup = RepliesTo (FindsBy told limits topic setup)
+
 -- the reply on the stones of a status
 abbrev pub RepliesStones : Status → Board → List ℕ → List ℕ → Type 0
 RepliesStones x g = RepliesTo (FindsStones x g)
 
--- the reply to an analysis
-abbrev pub IsReported : Limits → Analysis → List ℕ → BoardState → List ℕ → Type 0
-IsReported limits x id s reply = (said : Said) × Reports limits x s said × (reply ≡ reply_text id said)
+-- the reply to an analysis, with cycles admitted or without
+abbrev pub IsReported : Bool → Limits → Analysis → List ℕ → BoardState → List ℕ → Type 0
+IsReported cycles limits x id s reply = (said : Said) × Reports cycles limits x s said × (reply ≡ reply_text id said)

@@ -24,15 +24,15 @@ pub record HasCycleThresholds (s : Whole) (k : ℤ) (before now : List ℕ) : Ty
   pub text : now ≡ before ++ cycle_first_lines black white
 
 -- behind the text stands what is said of a stone
-pub record HasCycleStone (s : Whole) (k : ℤ) (p : ℕ) (before now : List ℕ) : Type 0 where
+pub record HasCycleStone (name : ℕ → List ℕ) (s : Whole) (k : ℤ) (p : ℕ) (before now : List ℕ) : Type 0 where
   pub said : List ℕ
-  pub is : IsCycleStoneText s k p said
+  pub is : IsCycleStoneText name s k p said
   pub text : now ≡ before ++ said
 
 -- behind the text stands what is said of the stones at the first n points
-pub record HasCycleStones (s : Whole) (k : ℤ) (n : ℕ) (before now : List ℕ) : Type 0 where
+pub record HasCycleStones (name : ℕ → List ℕ) (s : Whole) (k : ℤ) (n : ℕ) (before now : List ℕ) : Type 0 where
   pub said : List ℕ
-  pub are : AreCycleStoneTexts s k n said
+  pub are : AreCycleStoneTexts name s k n said
   pub text : now ≡ before ++ said
 
 -- behind the text stands what is said of a move that is no stone

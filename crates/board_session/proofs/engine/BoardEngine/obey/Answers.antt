@@ -35,4 +35,4 @@ returns-in-Analyse-clause-obeyed g c =
     let inside = c.self-in-Analyse.inside in let analysis = c.in-Analyse.analysis in let id = c.args.id.now in
     reported_obeyed inside.limits inside.loads inside.session inside.session c.args.self.now c.self-in-Analyse.view_is (g.H.Shelf.files c.args.shelf.now) (g.H.Shelf.faults c.args.shelf.now) id
     (order_of c.args.request) analysis (ap order_of c.in-Analyse.is) c.report.result
-    (subst (λ l. IfOk c.report.result (IsReported l analysis id inside.session)) c.of_game-limits-in-Analyse.ensures c.report.ensures.reported)
+    (subst (λ l. IfOk c.report.result (IsReported inside.limits.cycles l analysis id inside.session)) c.of_game-limits-in-Analyse.ensures c.report.ensures.reported)
