@@ -1,5 +1,5 @@
 -- What the replies to analyses tell where kos can arise.
-use Rattle.std.proofs.Common.{◌≡◌, ℕ, List, Ok, Err, Result, Option, IfOk, inl, inr, refl, subst}
+use Rattle.std.proofs.Common.{◌≡◌, ℕ, List, Ok, Err, Result, IfOk, inl, inr, refl}
 use Rattle.go_grid.specs.Chain.{IsFirstUnsettled, IsSettled}
 use Rattle.gtp_words.specs.Vertices.{vertex_text}
 use Rattle.sgf_go.specs.declared.settings.Setup.{Setup}
