@@ -1,5 +1,6 @@
 -- What a board engine keeps, and what the reply to a line leaves.
-use Rattle.std.specs.Prelude.{Bool, ◌≡◌, ℕ, List, Option}
+use Rattle.std.specs.Prelude.{Bool, ◌≡◌, ◌≤◌, ◌+◌, ℕ, List, length, Option}
+use Rattle.desk_io.specs.declared.lines.TheConstants.{MOST_LINES}
 use Rattle.desk_io.specs.Files.{Files}
 use Rattle.gtp_words.specs.Loads.{Loads, unloaded}
 use Rattle.gtp_words.specs.Sessions.{IsReply, Loaded}
@@ -24,3 +25,7 @@ IsBoardReply files before now line a reply b last = IsReply BoardState (AnswersL
 -- an engine that has answered nothing
 abbrev pub unused : BoardLimits → BoardEngine
 unused limits = record { limits = limits; state = first_state; loads = unloaded }
+
+-- so many lines more can be answered: each may be a move
+abbrev pub CanAnswer : ℕ → BoardState → Type 0
+CanAnswer n s = n + length s.moves ≤ MOST_LINES

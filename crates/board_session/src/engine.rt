@@ -20,7 +20,7 @@ use crate::request::{Asked, Request, read_asked};
 use crate::session::BoardSession;
 use board_words::colour_word;
 use desk_io::Shelf;
-use gtp_words::{Loading, Loads, MOST_LOADS, clean, load, split, take_id};
+use gtp_words::{Answer, Loading, Loads, MOST_LOADS, clean, load, split, take_id};
 use item_list::ItemList;
 use local_graph::MOST_POSITIONS;
 use local_play::Steps;
@@ -28,13 +28,6 @@ use std::alloc::{AllocError, Global};
 use std::marker::Model;
 use std::str;
 use std::sync::ledger::Ledger;
-
-/// The reply to a line, and whether the session ends with it.
-#[derive(Debug, Drop)]
-pub struct Answer {
-    pub reply: ItemList<u8>,
-    pub quit: bool,
-}
 
 /// A board session and its loads. Contracts see these and the limits.
 #[derive(Debug, Drop)]

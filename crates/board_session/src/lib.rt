@@ -24,7 +24,7 @@ mod texts;
 mod topic;
 mod wanted;
 
-pub use engine::{Answer, BoardEngine};
+pub use engine::BoardEngine;
 pub use laws::{board_laws, cycle_laws, generating_laws};
 pub use limits::BoardLimits;
 pub use position::{BoardMove, MadeMove, Position, Tally};

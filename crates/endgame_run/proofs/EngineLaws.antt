@@ -29,50 +29,58 @@ no_loads : (count : ℕ) → AreFailedLoads count count []
 no_loads count = record { ascending = search rules; counted = omega arith }
 
 -- no memory for an engine
-pub engine_refused : (r : SessionRules) (a b : Known) → b.input.loads ≡ a.input.loads → b.holds ≡ a.holds → IsEnginePlay r a Memory b
-engine_refused r a b loads same = record {
+pub engine_refused : (r : SessionRules) (a b : Known) → b.input.loads ≡ a.input.loads → b.input.left ≡ a.input.left → b.holds ≡ a.holds → IsEnginePlay r a Memory b
+engine_refused r a b loads unread same = record {
   failing = [];
   failed = subst (λ n. AreFailedLoads a.input.loads n []) (sym loads) (no_loads a.input.loads);
   ends = tt;
   read = λ e. absurd cc;
   write = λ e. absurd cc;
-  written = told_written _ a.input.left (λ bytes is. ([], (beginning r.start bytes, (0, (refl, refl), omega arith)), same ∙ nothing_behind a.holds));
+  written = told_written _ a.input.left (λ bytes is. (
+      [],
+      (
+        beginning r.start bytes,
+        (r.start, record { held = []; rest = bytes; same = refl; unread = refl; few = omega arith; source = unread ∙ is }),
+        (0, (refl, refl), omega arith),
+      ),
+      same ∙ nothing_behind a.holds,
+    ));
 }
 
-stopped_whole : (r : SessionRules) (files : Option Files) (failing bytes : List ℕ) (before now : Option (List ℕ)) (fault : Status) (text line : List ℕ) → IsEngineStopped r files failing bytes fault text line
-    → now ≡ append_known before (text ++ line) → IsEngineWritten r files failing bytes before now fault
-stopped_whole r files failing bytes before now CannotRead text line h e = (text, line, h, e)
-stopped_whole r files failing bytes before now TooManyLines text line h e = (text, line, h, e)
-stopped_whole r files failing bytes before now Done text line h e = absurd h
-stopped_whole r files failing bytes before now CannotWrite text line h e = absurd h
-stopped_whole r files failing bytes before now Memory text line h e = absurd h
-stopped_whole r files failing bytes before now status.Usage text line h e = absurd h
-stopped_whole r files failing bytes before now status.Cycle text line h e = absurd h
-stopped_whole r files failing bytes before now status.RegionLimit text line h e = absurd h
-stopped_whole r files failing bytes before now status.FormLimit text line h e = absurd h
-stopped_whole r files failing bytes before now status.TooLong text line h e = absurd h
-stopped_whole r files failing bytes before now (status.BadFile f) text line h e = absurd h
-stopped_whole r files failing bytes before now (status.BadExpression f) text line h e = absurd h
-stopped_whole r files failing bytes before now status.CalcLimit text line h e = absurd h
-stopped_whole r files failing bytes before now status.CaptureLimit text line h e = absurd h
+stopped_whole : (r : SessionRules) (files : Option Files) (failing bytes : List ℕ) (left before now : Option (List ℕ)) (fault : Status) (text line : List ℕ) → IsEngineStopped r files failing bytes left fault text line
+    → now ≡ append_known before (text ++ line) → IsEngineWritten r files failing bytes left before now fault
+stopped_whole r files failing bytes left before now CannotRead text line h e = (text, line, h, e)
+stopped_whole r files failing bytes left before now TooManyLines text line h e = (text, line, h, e)
+stopped_whole r files failing bytes left before now Done text line h e = absurd h
+stopped_whole r files failing bytes left before now CannotWrite text line h e = absurd h
+stopped_whole r files failing bytes left before now Memory text line h e = absurd h
+stopped_whole r files failing bytes left before now status.Usage text line h e = absurd h
+stopped_whole r files failing bytes left before now status.Cycle text line h e = absurd h
+stopped_whole r files failing bytes left before now status.RegionLimit text line h e = absurd h
+stopped_whole r files failing bytes left before now status.FormLimit text line h e = absurd h
+stopped_whole r files failing bytes left before now status.TooLong text line h e = absurd h
+stopped_whole r files failing bytes left before now (status.BadFile f) text line h e = absurd h
+stopped_whole r files failing bytes left before now (status.BadExpression f) text line h e = absurd h
+stopped_whole r files failing bytes left before now status.CalcLimit text line h e = absurd h
+stopped_whole r files failing bytes left before now status.CaptureLimit text line h e = absurd h
 
 module _ (r : SessionRules) (a b : Known) (failing : List ℕ) (failed : AreFailedLoads a.input.loads b.input.loads failing) (middle : ℕ) (mid : Option (List ℕ)) (status : Status) where
   -- a status that stands behind a session without a line of its own
   pub ended : (own : Status) → IsEngineStatus own → own ≢ CannotRead → (own ≡ CannotWrite → Rose a.writes b.writes) → status ≡ own → b.holds ≡ mid
-      → ((bytes : List ℕ) → a.input.left ≡ Some bytes → IsEngineWritten r a.input.files failing bytes a.holds mid own) → IsEnginePlay r a status b
+      → ((bytes : List ℕ) → a.input.left ≡ Some bytes → IsEngineWritten r a.input.files failing bytes b.input.left a.holds mid own) → IsEnginePlay r a status b
   ended own ends unread unwritten is same p = record {
     failing = failing;
     failed = failed;
     ends = subst IsEngineStatus (sym is) ends;
     read = λ e. absurd (unread (sym is ∙ e));
     write = λ e. unwritten (sym is ∙ e);
-    written = told_written _ a.input.left (λ bytes told. subst (λ z. IsEngineWritten r a.input.files failing bytes a.holds b.holds z) (sym is)
-        (subst (λ x. IsEngineWritten r a.input.files failing bytes a.holds x own) (sym same) (p bytes told)));
+    written = told_written _ a.input.left (λ bytes told. subst (λ z. IsEngineWritten r a.input.files failing bytes b.input.left a.holds b.holds z) (sym is)
+        (subst (λ x. IsEngineWritten r a.input.files failing bytes b.input.left a.holds x own) (sym same) (p bytes told)));
   }
 
   -- the line of a fault was written behind the replies, or a front part of it
   pub stopped : (fault : Status) (line : List ℕ) → IsEngineStatus fault → fault ≢ CannotWrite → (fault ≡ CannotRead → Rose a.input.reads b.input.reads) → a.writes ≤ middle
-      → ((bytes : List ℕ) → a.input.left ≡ Some bytes → (text : List ℕ) × IsEngineStopped r a.input.files failing bytes fault text line × (mid ≡ append_known a.holds text))
+      → ((bytes : List ℕ) → a.input.left ≡ Some bytes → (text : List ℕ) × IsEngineStopped r a.input.files failing bytes b.input.left fault text line × (mid ≡ append_known a.holds text))
       → Finishes fault line middle b.writes mid b.holds status → IsEnginePlay r a status b
   stopped fault line ends apart rose later p (inl w) = record {
     failing = failing;
@@ -80,8 +88,8 @@ module _ (r : SessionRules) (a b : Known) (failing : List ℕ) (failed : AreFail
     ends = subst IsEngineStatus (sym w.0) ends;
     read = λ e. rose (sym w.0 ∙ e);
     write = λ e. absurd (apart (sym w.0 ∙ e));
-    written = told_written _ a.input.left (λ bytes told. let h = p bytes told in subst (λ z. IsEngineWritten r a.input.files failing bytes a.holds b.holds z) (sym w.0)
-        (stopped_whole r a.input.files failing bytes a.holds b.holds fault h.0 line h.1 (w.1 ∙ ap (λ m. append_known m line) h.2 ∙ behind a.holds h.0 line)));
+    written = told_written _ a.input.left (λ bytes told. let h = p bytes told in subst (λ z. IsEngineWritten r a.input.files failing bytes b.input.left a.holds b.holds z) (sym w.0)
+        (stopped_whole r a.input.files failing bytes b.input.left a.holds b.holds fault h.0 line h.1 (w.1 ∙ ap (λ m. append_known m line) h.2 ∙ behind a.holds h.0 line)));
   }
   stopped fault line ends apart rose later p (inr w) = record {
     failing = failing;
@@ -89,28 +97,33 @@ module _ (r : SessionRules) (a b : Known) (failing : List ℕ) (failed : AreFail
     ends = subst IsEngineStatus (sym w.0) tt;
     read = λ e. absurd (let k : Path Status CannotWrite CannotRead = sym w.0 ∙ e in cc);
     write = λ e. rose_later a.writes middle b.writes later w.1;
-    written = told_written _ a.input.left (λ bytes told. let h = p bytes told in subst (λ z. IsEngineWritten r a.input.files failing bytes a.holds b.holds z) (sym w.0)
+    written = told_written _ a.input.left (λ bytes told. let h = p bytes told in subst (λ z. IsEngineWritten r a.input.files failing bytes b.input.left a.holds b.holds z) (sym w.0)
         (inr (fault, h.0, line, w.2.0, h.1, w.2.1 ∙ ap (λ m. append_known m (take w.2.0 line)) h.2 ∙ behind a.holds h.0 (take w.2.0 line))));
   }
 
-  -- the run of an engine, by the end of its session
-  pub engine_play : (final : GtpEnd) → ((bytes : List ℕ) → a.input.left ≡ Some bytes → WritesByEnd r.State (r.Reply a.input.files) failing r.start bytes a.holds mid final) → (final ≡ end.ReadFault → Rose a.input.reads b.input.reads)
+  -- the run of an engine, by the end of its session, behind which the source has as much left
+  pub engine_play : (state : r.State) (final : GtpEnd)
+      → ((bytes : List ℕ) → a.input.left ≡ Some bytes → WritesByEnd r.State (r.Reply a.input.files) failing r.start bytes a.holds mid state b.input.left final)
+      → (final ≡ end.ReadFault → Rose a.input.reads b.input.reads)
       → (final ≡ end.WriteFault → Rose a.writes middle) → a.writes ≤ middle → middle ≤ b.writes → IsClosed final middle b.writes mid b.holds status → IsEnginePlay r a status b
-  engine_play end.Quit p rose writes later up c = ended Done tt (λ e. absurd cc) (λ e. absurd cc) c.0 c.1 (λ bytes told. let h = p bytes told in (end.Quit, h.1, tt, (h.0, h.2), h.3))
-  engine_play end.InputEnded p rose writes later up c = ended Done tt (λ e. absurd cc) (λ e. absurd cc) c.0 c.1 (λ bytes told. let h = p bytes told in (end.InputEnded, h.1, tt, (h.0, h.2), h.3))
-  engine_play end.WriteFault p rose writes later up c = ended CannotWrite tt (λ e. absurd cc) (λ e. let r = writes refl in omega (arith, r, up)) c.0 c.1 (λ bytes told. inl (p bytes told))
-  engine_play end.Memory p rose writes later up c = ended Memory tt (λ e. absurd cc) (λ e. absurd cc) c.0 c.1 (λ bytes told. let h = p bytes told in (h.1, (h.0, h.2), h.3))
-  engine_play end.ReadFault p rose writes later up c = stopped CannotRead (codes "fault cannot read\n") tt (λ e. absurd cc) (λ e. rose refl) later (λ bytes told. let h = p bytes told in (h.1, ((h.0, h.2), refl), h.3)) c
-  engine_play end.TooManyLines p rose writes later up c = stopped TooManyLines (codes "fault lines\n") tt (λ e. absurd cc) (λ e. absurd cc) later (λ bytes told. let h = p bytes told in (h.1, ((h.0, h.2), refl), h.3)) c
+  engine_play state end.Quit p rose writes later up c = ended Done tt (λ e. absurd cc) (λ e. absurd cc) c.0 c.1 (λ bytes told. let h = p bytes told in (end.Quit, h.1, tt, (h.0, (state, h.2), h.3), h.4))
+  engine_play state end.InputEnded p rose writes later up c = ended Done tt (λ e. absurd cc) (λ e. absurd cc) c.0 c.1 (λ bytes told. let h = p bytes told in (end.InputEnded, h.1, tt, (h.0, (state, h.2), h.3), h.4))
+  engine_play state end.WriteFault p rose writes later up c =
+      ended CannotWrite tt (λ e. absurd cc) (λ e. let r = writes refl in omega (arith, r, up)) c.0 c.1 (λ bytes told. let h = p bytes told in inl (h.1, (h.0, (state, h.2), h.3), h.4))
+  engine_play state end.Memory p rose writes later up c = ended Memory tt (λ e. absurd cc) (λ e. absurd cc) c.0 c.1 (λ bytes told. let h = p bytes told in (h.1, (h.0, (state, h.2), h.3), h.4))
+  engine_play state end.ReadFault p rose writes later up c =
+      stopped CannotRead (codes "fault cannot read\n") tt (λ e. absurd cc) (λ e. rose refl) later (λ bytes told. let h = p bytes told in (h.1, ((h.0, (state, h.2), h.3), refl), h.4)) c
+  engine_play state end.TooManyLines p rose writes later up c =
+      stopped TooManyLines (codes "fault lines\n") tt (λ e. absurd cc) (λ e. absurd cc) later (λ bytes told. let h = p bytes told in (h.1, ((h.0, (state, h.2), h.3), refl), h.4)) c
 
 -- the same, by the loads of the session
-pub engine_ran : (r : SessionRules) (a b : Known) (loads : Loads) (middle : ℕ) (mid : Option (List ℕ)) (status : Status) (final : GtpEnd) → AreLoads loads
+pub engine_ran : (r : SessionRules) (a b : Known) (loads : Loads) (middle : ℕ) (mid : Option (List ℕ)) (status : Status) (state : r.State) (final : GtpEnd) → AreLoads loads
     → RoseBy (length loads.failures) a.input.loads b.input.loads
-    → ((bytes : List ℕ) → a.input.left ≡ Some bytes → WritesByEnd r.State (r.Reply a.input.files) loads.failures r.start bytes a.holds mid final)
+    → ((bytes : List ℕ) → a.input.left ≡ Some bytes → WritesByEnd r.State (r.Reply a.input.files) loads.failures r.start bytes a.holds mid state b.input.left final)
     → (final ≡ end.ReadFault → Rose a.input.reads b.input.reads) → (final ≡ end.WriteFault → Rose a.writes middle) → a.writes ≤ middle → middle ≤ b.writes
     → IsClosed final middle b.writes mid b.holds status → IsEnginePlay r a status b
-engine_ran r a b loads middle mid status final numbered counted p rose writes later up c =
-    engine_play r a b loads.failures (record { ascending = numbered.ascending; counted = counted }) middle mid status final p rose writes later up c
+engine_ran r a b loads middle mid status state final numbered counted p rose writes later up c =
+    engine_play r a b loads.failures (record { ascending = numbered.ascending; counted = counted }) middle mid status state final p rose writes later up c
 
 -- what a session took of its source
 pub session_taken : (before now : Option (List ℕ)) → (held : List ℕ) × (length held ≤ 1024) × UsesLines 1024 0 10000 [] before held now → TakesAtMost most_of_engine before now

@@ -71,7 +71,7 @@ HasManyLines job word a status = (status ≡ TooManyLines) × ((engine : Colour)
 -- 10,000 lines were read of a session of the engine, which over the bytes ends so
 abbrev pub HasManyCommands : Job → Known → Status → Known → Type 0
 HasManyCommands job a status b = (status ≡ TooManyLines) × ((failing : List ℕ) × AreFailedLoads a.input.loads b.input.loads failing
-    × IfSome a.input.left (λ bytes. (text : List ℕ) × IsEngineSession (session_rules job) a.input.files failing bytes gtp_end.TooManyLines text))
+    × IfSome a.input.left (λ bytes. (text : List ℕ) × IsEngineSession (session_rules job) a.input.files failing bytes b.input.left gtp_end.TooManyLines text))
 
 -- no refusal meets the expression within the limit of parts
 abbrev pub IsUnrefused : ℕ → List ℕ → Type 0

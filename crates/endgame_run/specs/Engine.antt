@@ -11,7 +11,7 @@ use Rattle.board_session.specs.declared.limits.BoardLimits.{BoardLimits}
 use Rattle.gtp_words.specs.declared.end.GtpEnd.{GtpEnd}
 use Rattle.gtp_words.specs.declared.end.GtpEnd.TheVariants as end
 use Rattle.gtp_words.specs.Loads.{RoseBy}
-use Rattle.gtp_words.specs.Sessions.{Answers, BreaksOff, IsSession, Standing, Waits, beginning}
+use Rattle.gtp_words.specs.Sessions.{Answers, BreaksOff, IsSession, Standing, StandsAt, Waits, beginning}
 use Rattle.gtp_engine.specs.Session as engine
 use Rattle.board_session.specs.Session as board
 use Rattle.board_session.specs.States.{BoardState}
@@ -44,14 +44,23 @@ pub record AreFailedLoads (before now : ℕ) (failing : List ℕ) : Type 0 where
   pub ascending : IsStrictlyIncreasing failing
   pub counted : RoseBy (length failing) before now
 
-module _ (r : SessionRules) (files : Option Files) (failing bytes : List ℕ) where
+-- the session stands here, of what the source has left
+abbrev pub LeavesOff : (r : SessionRules) → Option (List ℕ) → Standing r.State → Type 0
+LeavesOff r left b = (state : r.State) × StandsAt r.State state left b
+
+-- of the bytes that a session is over, these are left in the source
+module _ (r : SessionRules) (files : Option Files) (failing bytes : List ℕ) (left : Option (List ℕ)) where
   -- a whole session over the bytes, with its end and its text
   abbrev pub IsEngineSession : GtpEnd → List ℕ → Type 0
-  IsEngineSession final text = (b : Standing r.State) × IsSession r.State (r.Reply files) failing (beginning r.start bytes) text b final
+  IsEngineSession final text = (b : Standing r.State) × LeavesOff r left b × IsSession r.State (r.Reply files) failing (beginning r.start bytes) text b final
 
   -- the replies to all lines up to one that is still to be answered
   abbrev pub AreRepliesSoFar : List ℕ → Type 0
-  AreRepliesSoFar text = (b : Standing r.State) × Waits r.State (r.Reply files) failing (beginning r.start bytes) text b
+  AreRepliesSoFar text = (b : Standing r.State) × LeavesOff r left b × Waits r.State (r.Reply files) failing (beginning r.start bytes) text b
+
+  -- the replies to some lines, and a front part of the next one
+  abbrev pub AreRepliesBroken : List ℕ → Type 0
+  AreRepliesBroken text = (b : Standing r.State) × LeavesOff r left b × BreaksOff r.State (r.Reply files) failing (beginning r.start bytes) text b
 
   -- the replies up to a fault, and the line of the fault: a read failed, or 10,000 lines were read and none of them ended the session
   abbrev pub IsEngineStopped : Status → List ℕ → List ℕ → Type 0
@@ -74,18 +83,18 @@ IsEngineStatus TooManyLines = Unit {0}
 IsEngineStatus Memory = Unit {0}
 IsEngineStatus s = ⊥
 
-module _ (r : SessionRules) (files : Option Files) (failing bytes : List ℕ) where
+module _ (r : SessionRules) (files : Option Files) (failing bytes : List ℕ) (left : Option (List ℕ)) where
   -- What was written in answer to the bytes, by the status: the session, and the line of a fault behind it. For want of memory it is whole
   -- replies. Where a write failed it is replies and a front part of the next one, or a front part of the fault's line.
   abbrev pub IsEngineWritten : Option (List ℕ) → Option (List ℕ) → Status → Type 0
   IsEngineWritten before now Done = (final : GtpEnd) × (text : List ℕ) × IsSessionOver final
-      × IsEngineSession r files failing bytes final text × (now ≡ append_known before text)
-  IsEngineWritten before now Memory = (text : List ℕ) × AreRepliesSoFar r files failing bytes text × (now ≡ append_known before text)
+      × IsEngineSession r files failing bytes left final text × (now ≡ append_known before text)
+  IsEngineWritten before now Memory = (text : List ℕ) × AreRepliesSoFar r files failing bytes left text × (now ≡ append_known before text)
   IsEngineWritten before now CannotWrite =
-      ((text : List ℕ) × BreaksOff r.State (r.Reply files) failing (beginning r.start bytes) text × (now ≡ append_known before text))
-      ⊎ ((fault : Status) × (text line : List ℕ) × (n : ℕ) × IsEngineStopped r files failing bytes fault text line × (now ≡ append_known before (text ++ take n line)))
+      ((text : List ℕ) × AreRepliesBroken r files failing bytes left text × (now ≡ append_known before text))
+      ⊎ ((fault : Status) × (text line : List ℕ) × (n : ℕ) × IsEngineStopped r files failing bytes left fault text line × (now ≡ append_known before (text ++ take n line)))
   IsEngineWritten before now status =
-      (text line : List ℕ) × IsEngineStopped r files failing bytes status text line × (now ≡ append_known before (text ++ line))
+      (text line : List ℕ) × IsEngineStopped r files failing bytes left status text line × (now ≡ append_known before (text ++ line))
 
 -- A session of the kind: its status, and its text where the source tells its bytes, for some loads that failed. A read or a write that failed
 -- was counted.
@@ -95,7 +104,7 @@ pub record IsEnginePlay (r : SessionRules) (a : Known) (status : Status) (b : Kn
   pub ends : IsEngineStatus status
   pub read : status ≡ CannotRead → Rose a.input.reads b.input.reads
   pub write : status ≡ CannotWrite → Rose a.writes b.writes
-  pub written : IfSome a.input.left (λ bytes. IsEngineWritten r a.input.files failing bytes a.holds b.holds status)
+  pub written : IfSome a.input.left (λ bytes. IsEngineWritten r a.input.files failing bytes b.input.left a.holds b.holds status)
 
 -- what a session of the kind comes to
 pub record RunsEngine {H S K : Type 0} (o : Outside H S K) (r : SessionRules) (a : Desk H S K) (status : Status) (b : Desk H S K) : Type 0 where

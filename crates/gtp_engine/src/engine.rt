@@ -25,7 +25,7 @@ use desk_io::Shelf;
 use engine_player::Player;
 use game_text::Text;
 use go_grid::Size;
-use gtp_words::{Loading, Loads, MOST_LOADS, clean, load, split, take_id};
+use gtp_words::{Answer, Loading, Loads, MOST_LOADS, clean, load, split, take_id};
 use local_graph::MOST_POSITIONS;
 use local_play::Steps;
 use sgf_go::Setup;
@@ -33,13 +33,6 @@ use std::alloc::{AllocError, Global};
 use std::marker::Model;
 use std::sync::ledger::Ledger;
 use std::{mem, str};
-
-/// The reply to a line, and whether the session ends with it.
-#[derive(Debug, Drop)]
-pub struct Answer {
-    pub reply: Text,
-    pub quit: bool,
-}
 
 /// A setup, and the game that runs after it, if one does; and the loads so far. Contracts see these and the limits.
 #[derive(Debug, Drop)]

@@ -13,7 +13,7 @@ mod session;
 mod setups;
 mod turns;
 
-pub use engine::{Answer, Engine};
-pub use gtp_words::GtpEnd;
+pub use engine::Engine;
+pub use gtp_words::{Answer, GtpEnd};
 pub use laws::session_laws;
 pub use limits::EngineLimits;

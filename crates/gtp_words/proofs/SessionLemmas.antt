@@ -1,10 +1,10 @@
 -- A session as far as it was answered.
-use Rattle.std.proofs.Common.{Bool, true, false, ◌≡◌, ◌<◌, ◌+◌, ◌++◌, ℕ, suc, List, [], refl, ap, ◌∙◌, append-nil, sym, subst, Option, Some, None}
+use Rattle.std.proofs.Common.{Bool, true, false, ◌≡◌, ◌<◌, ◌≤◌, ◌+◌, ◌++◌, ℕ, suc, List, [], length, refl, ap, ◌∙◌, append-nil, sym, subst, Option, Some, None}
 use Rattle.desk_io.specs.declared.lines.TheConstants.{MOST_LINES}
 use Rattle.std.specs.Io.KnownBytes.{append_known}
 use Rattle.gtp_words.specs.declared.end.GtpEnd.{GtpEnd}
 use Rattle.gtp_words.specs.declared.end.GtpEnd.TheVariants.{Quit, InputEnded, ReadFault, WriteFault, TooManyLines, Memory}
-use Rattle.gtp_words.specs.Sessions.{Answers, Loaded, Standing, TakesLine, TakesLines, WritesByEnd, beginning, loadless}
+use Rattle.gtp_words.specs.Sessions.{Answers, Loaded, Standing, TakesLine, TakesLines, StandsAt, WritesByEnd, beginning, loadless}
 use Rattle.gtp_words.specs.inner.Taking.{Replies}
 use Rattle.gtp_words.proofs.FailedLoadLemmas.{Agrees, AreBelow, agrees_itself, noted_agrees, noted_numbered}
 use Rattle.gtp_words.proofs.TakenLineLemmas.{Taken, append_none, append_twice}
@@ -56,12 +56,16 @@ module _ (A : Type 0) (Reply : Answers A) where
     joined : (holds' : Option (List ℕ)) (first then : List ℕ) → holds ≡ append_known holds₀ first → holds' ≡ append_known holds then → holds' ≡ append_known holds₀ (first ++ then)
     joined holds' first then e f = f ∙ ap (λ h. append_known h then) e ∙ append_twice holds₀ first then
 
+    stands : (b : Loaded A) (n : ℕ) (own rest : List ℕ) (l : Option (List ℕ)) → l ≡ Some rest → length own ≤ 1024 → StandsAt A b.state l (standing b n (own ++ rest))
+    stands b n own rest l told short = record { held = own; rest = rest; same = refl; unread = refl; few = short; source = told }
+
     -- as many lines were read as a session reads
-    pub going_over : read ≡ MOST_LINES → (bytes : List ℕ) → left₀ ≡ Some bytes → WritesByEnd A Reply a.loads.failures start bytes holds₀ holds TooManyLines
-    going_over all bytes e =
+    pub going_over : read ≡ MOST_LINES → length held ≤ 1024 → (bytes : List ℕ) → left₀ ≡ Some bytes → WritesByEnd A Reply a.loads.failures start bytes holds₀ holds a.state left TooManyLines
+    going_over all short bytes e =
         let x = w.told bytes e in (
           standing a read (held ++ x.rest),
           x.text,
+          stands a read held x.rest left x.unread short,
           record {
             number = x.number;
             before_end = standing a read (held ++ x.rest);
@@ -75,6 +79,10 @@ module _ (A : Type 0) (Reply : Answers A) where
         )
 
     module _ (before now : ℕ) (b : Loaded A) (held' : List ℕ) (left' holds' : Option (List ℕ)) (few : read < MOST_LINES) (below : AreBelow a.loads) where
+      -- what the reader held and the source had left is held and left still
+      stays : b ≡ a → length held' ≤ 1024 → (rest rest' : List ℕ) → left' ≡ Some rest' → held' ++ rest' ≡ held ++ rest → StandsAt A b.state left' (standing a read (held ++ rest))
+      stays is short rest rest' told unmoved = record { held = held'; rest = rest'; same = ap (λ l. l.state) (sym is); unread = sym unmoved; few = short; source = told }
+
       -- a line more
       pub going_line : Taken A Reply before now a held left holds holds' None b held' left' → Going start left₀ holds₀ b (read + 1) held' left' holds'
       going_line taken = record {
@@ -104,12 +112,13 @@ module _ (A : Type 0) (Reply : Answers A) where
       same_agrees same = subst (λ v. Agrees a.loads v.loads.failures) (sym same) (agrees_itself a.loads)
 
       -- the session ends
-      pub going_end : (end : GtpEnd) → Taken A Reply before now a held left holds holds' (Some end) b held' left' → (bytes : List ℕ) → left₀ ≡ Some bytes
-          → WritesByEnd A Reply b.loads.failures start bytes holds₀ holds' end
-      going_end Quit taken bytes e =
+      pub going_end : (end : GtpEnd) → length held' ≤ 1024 → Taken A Reply before now a held left holds holds' (Some end) b held' left' → (bytes : List ℕ) → left₀ ≡ Some bytes
+          → WritesByEnd A Reply b.loads.failures start bytes holds₀ holds' b.state left' end
+      going_end Quit short taken bytes e =
           let x = w.told bytes e in let t = taken x.rest x.unread in let l = t.2 in let agrees = agrees_itself b.loads in (
             standing b (read + 1) (held' ++ t.0),
             x.text ++ l.0,
+            stands b (read + 1) held' t.0 left' t.1 short,
             record {
               number = x.number;
               before_end = standing a read (held ++ x.rest);
@@ -121,10 +130,11 @@ module _ (A : Type 0) (Reply : Answers A) where
             },
             joined holds' x.text l.0 x.written l.2,
           )
-      going_end InputEnded taken bytes e =
+      going_end InputEnded short taken bytes e =
           let x = w.told bytes e in let t = taken x.rest x.unread in let l = t.2 in (
             standing a read (held ++ x.rest),
             x.text,
+            stays l.1 short x.rest t.0 t.1 l.3,
             record {
               number = x.number;
               before_end = standing a read (held ++ x.rest);
@@ -136,19 +146,20 @@ module _ (A : Type 0) (Reply : Answers A) where
             },
             l.2 ∙ x.written,
           )
-      going_end ReadFault taken bytes e =
+      going_end ReadFault short taken bytes e =
           let x = w.told bytes e in let t = taken x.rest x.unread in
-          (standing a read (held ++ x.rest), x.text, (x.number, x.turns b.loads.failures (same_agrees t.2.0), few), t.2.1 ∙ x.written)
-      going_end Memory taken bytes e =
+          (standing a read (held ++ x.rest), x.text, stays t.2.0 short x.rest t.0 t.1 t.2.2, (x.number, x.turns b.loads.failures (same_agrees t.2.0), few), t.2.1 ∙ x.written)
+      going_end Memory short taken bytes e =
           let x = w.told bytes e in let t = taken x.rest x.unread in
-          (standing a read (held ++ x.rest), x.text, (x.number, x.turns b.loads.failures (same_agrees t.2.0), few), t.2.1 ∙ x.written)
-      going_end WriteFault taken bytes e =
+          (standing a read (held ++ x.rest), x.text, stays t.2.0 short x.rest t.0 t.1 t.2.2, (x.number, x.turns b.loads.failures (same_agrees t.2.0), few), t.2.1 ∙ x.written)
+      going_end WriteFault short taken bytes e =
           let x = w.told bytes e in let t = taken x.rest x.unread in let l = t.2 in let agrees = agrees_itself b.loads in (
+            standing b (read + 1) (held' ++ t.0),
             x.text ++ l.0,
+            stands b (read + 1) held' t.0 left' t.1 short,
             (
               x.number,
               standing a read (held ++ x.rest),
-              standing b (read + 1) (held' ++ t.0),
               x.text,
               l.0,
               l.1,
@@ -159,4 +170,4 @@ module _ (A : Type 0) (Reply : Answers A) where
             ),
             joined holds' x.text l.0 x.written l.4,
           )
-      going_end TooManyLines taken bytes e = let x = w.told bytes e in absurd (taken x.rest x.unread).2
+      going_end TooManyLines short taken bytes e = let x = w.told bytes e in absurd (taken x.rest x.unread).2

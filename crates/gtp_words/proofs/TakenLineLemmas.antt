@@ -2,9 +2,10 @@
 use Rattle.std.proofs.Common.{Bool, true, false, ◌≡◌, ◌≤◌, ◌++◌, ℕ, List, [], length, take, drop, refl, sym, ap, ◌∙◌, subst, arith, append_assoc, append-nil, length-append, take-append-drop, Option, Some, None}
 use Rattle.std.specs.Io.KnownBytes.{append_known}
 use Rattle.desk_io.specs.Lines.{IsFound, IsLine, IsSameInput}
+use Rattle.desk_io.specs.Outside.{ended}
 use Rattle.desk_io.specs.declared.lines.FoundLine.{FoundLine}
 use Rattle.gtp_words.specs.declared.end.GtpEnd.{GtpEnd}
-use Rattle.gtp_words.specs.declared.end.GtpEnd.TheVariants.{Quit, ReadFault, WriteFault}
+use Rattle.gtp_words.specs.declared.end.GtpEnd.TheVariants.{InputEnded, Memory, Quit, ReadFault, WriteFault}
 use Rattle.gtp_words.specs.Sessions.{Answers, IsReply, Loaded}
 use Rattle.gtp_words.specs.inner.Taking.{LineTaken, Replies}
 
@@ -16,6 +17,9 @@ pub append_twice : (told : Option (List ℕ)) (a b : List ℕ) → append_known 
 append_twice None a b = refl
 append_twice (Some xs) a b = ap Some (append_assoc xs a b)
 
+rest_none : (rest : List ℕ) → Path (Option (List ℕ)) (Some rest) (ended (Some rest)) → rest ≡ []
+rest_none rest e = cc
+
 -- what one line leaves, whatever the source has left
 abbrev pub Taken : (A : Type 0) → Answers A → ℕ → ℕ → Loaded A → List ℕ → Option (List ℕ) → Option (List ℕ) → Option (List ℕ) → Option GtpEnd → Loaded A → List ℕ → Option (List ℕ) → Type 0
 Taken A Reply before now a held left holds holds' result b held' left' = (bytes : List ℕ) → left ≡ Some bytes
@@ -24,7 +28,17 @@ Taken A Reply before now a held left holds holds' result b held' left' = (bytes 
 module _ (A : Type 0) (Reply : Answers A) (before now : ℕ) (a : Loaded A) (start held : List ℕ) (left left' holds : Option (List ℕ)) (same : IsSameInput start left held left') where
   -- a read failed
   pub taken_unread : Taken A Reply before now a start left holds holds (Some ReadFault) a held left'
-  taken_unread = λ bytes e. let r = same bytes e in (r.0, r.1, (refl, refl))
+  taken_unread = λ bytes e. let r = same bytes e in (r.0, r.1, (refl, refl, sym r.2))
+
+  -- memory was refused
+  pub taken_refused : (b : Loaded A) → b ≡ a → Taken A Reply before now a start left holds holds (Some Memory) b held left'
+  taken_refused b is = λ bytes e. let r = same bytes e in (r.0, r.1, (is, refl, sym r.2))
+
+  -- nothing was left
+  pub taken_nothing : held ≡ [] → left' ≡ ended left' → Taken A Reply before now a start left holds holds (Some InputEnded) a held left'
+  taken_nothing none end = λ bytes e.
+      let r = same bytes e in
+      (r.0, r.1, (r.2 ∙ ap (λ l. l ++ r.0) none ∙ rest_none r.0 (sym r.1 ∙ end ∙ ap ended r.1), refl, refl, sym r.2))
 
   module _ (f : FoundLine) (found : IsFound 1024 held left' (Some f)) (b : Loaded A) (line used : List ℕ) (is : line ≡ take f.line held) (behind : used ≡ drop f.taken held) where
     replies : (text : List ℕ) (last : Bool) → IsReply A Reply before now line a text b last → (bytes : List ℕ) → left ≡ Some bytes

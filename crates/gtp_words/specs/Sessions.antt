@@ -1,5 +1,5 @@
 -- Sessions over lines: what is replied to each line, and how a session ends.
-use Rattle.std.specs.Prelude.{Bool, true, false, ◌≡◌, ◌≢◌, ◌<◌, ◌+◌, ◌++◌, ℕ, zero, suc, List, [], Option}
+use Rattle.std.specs.Prelude.{Bool, true, false, ◌≡◌, ◌≢◌, ◌<◌, ◌≤◌, ◌+◌, ◌++◌, ℕ, zero, suc, List, [], length, Option, Some}
 use Rattle.std.specs.Io.KnownBytes.{append_known}
 use Rattle.desk_io.specs.declared.lines.TheConstants.{MOST_LINES}
 use Rattle.desk_io.specs.Lines.{IsLine}
@@ -71,18 +71,33 @@ pub record IsSession (A : Type 0) (Reply : Answers A) (failing : List ℕ) (a : 
 abbrev pub Waits : (A : Type 0) → Answers A → List ℕ → Standing A → List ℕ → Standing A → Type 0
 Waits A Reply failing a text b = (n : ℕ) × TakesLines A Reply failing n a text b × (b.read < MOST_LINES)
 
--- the replies to some lines, and a front part of the next reply
-abbrev pub BreaksOff : (A : Type 0) → Answers A → List ℕ → Standing A → List ℕ → Type 0
-BreaksOff A Reply failing a text = (n : ℕ) × (b c : Standing A) × (first then more : List ℕ) × (last : Bool) × TakesLines A Reply failing n a first b
+-- the replies to some lines, and a front part of the next reply, which leads here
+abbrev pub BreaksOff : (A : Type 0) → Answers A → List ℕ → Standing A → List ℕ → Standing A → Type 0
+BreaksOff A Reply failing a text c = (n : ℕ) × (b : Standing A) × (first then more : List ℕ) × (last : Bool) × TakesLines A Reply failing n a first b
     × TakesLine A Reply failing b (then ++ more) c last × (text ≡ first ++ then)
 
 -- where a session begins in a state: nothing was loaded or read
 abbrev pub beginning : {A : Type 0} → A → List ℕ → Standing A
 beginning start bytes = record { state = start; loads = 0; read = 0; left = bytes }
 
--- what a session over the bytes has written, by its end: all of it, or the replies so far, or a front part of the next reply too
-abbrev pub WritesByEnd : (A : Type 0) → Answers A → List ℕ → A → List ℕ → Option (List ℕ) → Option (List ℕ) → GtpEnd → Type 0
-WritesByEnd A Reply failing start bytes before now ReadFault = (c : Standing A) × (text : List ℕ) × Waits A Reply failing (beginning start bytes) text c × (now ≡ append_known before text)
-WritesByEnd A Reply failing start bytes before now Memory = (c : Standing A) × (text : List ℕ) × Waits A Reply failing (beginning start bytes) text c × (now ≡ append_known before text)
-WritesByEnd A Reply failing start bytes before now WriteFault = (text : List ℕ) × BreaksOff A Reply failing (beginning start bytes) text × (now ≡ append_known before text)
-WritesByEnd A Reply failing start bytes before now end = (c : Standing A) × (text : List ℕ) × IsSession A Reply failing (beginning start bytes) text c end × (now ≡ append_known before text)
+-- The session stands here: in this state, and what it left unread are the bytes that its reader holds, no more than a line may have, and
+-- those that the source has left.
+pub record StandsAt (A : Type 0) (state : A) (left : Option (List ℕ)) (c : Standing A) : Type 0 where
+  pub held : List ℕ
+  pub rest : List ℕ
+  pub same : c.state ≡ state
+  pub unread : c.left ≡ held ++ rest
+  pub few : length held ≤ 1024
+  pub source : left ≡ Some rest
+
+-- What a session over the bytes has written, by its end, and where it stands: all of it, or the replies so far, or a front part of the next
+-- reply too.
+abbrev pub WritesByEnd : (A : Type 0) → Answers A → List ℕ → A → List ℕ → Option (List ℕ) → Option (List ℕ) → A → Option (List ℕ) → GtpEnd → Type 0
+WritesByEnd A Reply failing start bytes before now state left ReadFault = (c : Standing A) × (text : List ℕ) × StandsAt A state left c
+    × Waits A Reply failing (beginning start bytes) text c × (now ≡ append_known before text)
+WritesByEnd A Reply failing start bytes before now state left Memory = (c : Standing A) × (text : List ℕ) × StandsAt A state left c
+    × Waits A Reply failing (beginning start bytes) text c × (now ≡ append_known before text)
+WritesByEnd A Reply failing start bytes before now state left WriteFault = (c : Standing A) × (text : List ℕ) × StandsAt A state left c
+    × BreaksOff A Reply failing (beginning start bytes) text c × (now ≡ append_known before text)
+WritesByEnd A Reply failing start bytes before now state left end = (c : Standing A) × (text : List ℕ) × StandsAt A state left c
+    × IsSession A Reply failing (beginning start bytes) text c end × (now ≡ append_known before text)

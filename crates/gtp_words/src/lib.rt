@@ -1,10 +1,11 @@
-//! The words of the Go Text Protocol: lines, ids, colours, points and replies; and the loads of files that sessions ask for.
+//! The Go Text Protocol: the words of lines, ids, colours, points and replies; the loads of files; and sessions over lines.
 #![tactic(auto)]
 
 mod end;
 mod loading;
 mod loads;
 mod replies;
+mod sessions;
 mod vertices;
 mod words;
 
@@ -12,5 +13,6 @@ pub use end::GtpEnd;
 pub use loading::{Loading, load};
 pub use loads::{Loads, MOST_LOADS};
 pub use replies::compose;
+pub use sessions::{Answer, AnswersLines, run_session};
 pub use vertices::{Vertex, is_word, letter_of, point_at, point_text, read_colour, read_vertex};
 pub use words::{Headed, clean, split, take_id};

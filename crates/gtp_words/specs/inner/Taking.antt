@@ -19,9 +19,9 @@ pub record Replies (A : Type 0) (Reply : Answers A) (before now : ℕ) (a : Load
 abbrev pub LineTaken : (A : Type 0) → Answers A → ℕ → ℕ → Loaded A → List ℕ → Option (List ℕ) → Option (List ℕ) → Option GtpEnd → Loaded A → List ℕ → Type 0
 LineTaken A Reply before now a bytes holds holds' None b rest = (text : List ℕ) × Replies A Reply before now a bytes text b rest false × (holds' ≡ append_known holds text)
 LineTaken A Reply before now a bytes holds holds' (Some Quit) b rest = (text : List ℕ) × Replies A Reply before now a bytes text b rest true × (holds' ≡ append_known holds text)
-LineTaken A Reply before now a bytes holds holds' (Some InputEnded) b rest = (bytes ≡ []) × (b ≡ a) × (holds' ≡ holds)
-LineTaken A Reply before now a bytes holds holds' (Some ReadFault) b rest = (b ≡ a) × (holds' ≡ holds)
-LineTaken A Reply before now a bytes holds holds' (Some Memory) b rest = (b ≡ a) × (holds' ≡ holds)
+LineTaken A Reply before now a bytes holds holds' (Some InputEnded) b rest = (bytes ≡ []) × (b ≡ a) × (holds' ≡ holds) × (rest ≡ bytes)
+LineTaken A Reply before now a bytes holds holds' (Some ReadFault) b rest = (b ≡ a) × (holds' ≡ holds) × (rest ≡ bytes)
+LineTaken A Reply before now a bytes holds holds' (Some Memory) b rest = (b ≡ a) × (holds' ≡ holds) × (rest ≡ bytes)
 LineTaken A Reply before now a bytes holds holds' (Some WriteFault) b rest = (text more : List ℕ) × (last : Bool) × Replies A Reply before now a bytes (text ++ more) b rest last
     × (holds' ≡ append_known holds text)
 LineTaken A Reply before now a bytes holds holds' (Some TooManyLines) b rest = ⊥

@@ -3,20 +3,18 @@ use Rattle.std.specs.Io.KnownBytes.{append_known}
 use Rattle.desk_io.specs.Lines.{IsFound, UsesLines}
 use Rattle.desk_io.proofs.UsedLineLemmas.{used_line}
 use Rattle.gtp_words.proofs.TakenLineLemmas.{taken_cut, taken_last, taken_on}
-use Rattle.board_session.specs.Session.{AnswersLine}
-use Rattle.board_session.specs.States.{BoardState}
-use Rattle.board_session.specs.Written.{loaded}
-use Rattle.board_session.proofs.engine.BoardEngine.take_line.Goals as goal
+use Rattle.gtp_words.proofs.sessions.take_line.Goals as goal
 
 pub returns-in-Err-say-clause-taken : goal.returns-in-Err-say-clause-taken
 returns-in-Err-say-clause-taken g c =
-    let files = g.H.Shelf.files c.args.shelf.now in let before = g.H.Shelf.faults c.args.shelf.now in let now = g.H.Shelf.faults c.answer.new.shelf in
+    let loaded = g.A.AnswersLines.loaded in let rep = g.A.AnswersLines.replies in
+    let files = g.H.Shelf.files c.args.shelf.now in let before = g.H.Shelf.faults c.args.shelf.now in let now = g.H.Shelf.faults c.answer_line.new.shelf in
     let held = c.find_line.new.self in let left = g.S.Source.left c.args.lines.now in let left' = g.S.Source.left c.find_line.new.lines in
     let holds = g.K.Sink.holds c.args.out.now in let holds' = g.K.Sink.holds c.say.new.out in let f = c.in-Ok-Some.found in let answer = c.in-Ok.answer in
     let found = subst (λ x. IsFound 1024 held left' x) c.in-Ok-Some.field-0-is c.in-Ok-Some.ensures.found in
-    taken_cut BoardState (AnswersLine c.args.self.now.limits files) before now (loaded c.args.self.now) c.args.reader.now held left left' holds c.find_line.ensures.same f found (loaded c.answer.new.self)
+    taken_cut g.A.AnswersLines.State (rep (g.A.AnswersLines.rules c.args.engine.now) files) before now (loaded c.args.engine.now) c.args.reader.now held left left' holds c.find_line.ensures.same f found (loaded c.answer_line.new.self)
     c.front.result.now c.drop_front.new.self c.front.ensures c.drop_front.ensures
-    answer.reply answer.quit holds' c.in-Ok.ensures.answered.0 (subst (λ t. (n : ℕ) × (n ≤ length t) × (holds' ≡ append_known holds (take n t))) c.as_slice.ensures c.in-Err-say.ensures.bytes)
+    answer.reply answer.quit holds' c.in-Ok.ensures.answered (subst (λ t. (n : ℕ) × (n ≤ length t) × (holds' ≡ append_known holds (take n t))) c.as_slice.ensures c.in-Err-say.ensures.bytes)
 
 pub returns-in-Err-say-clause-used : goal.returns-in-Err-say-clause-used
 returns-in-Err-say-clause-used g c =
@@ -26,13 +24,14 @@ returns-in-Err-say-clause-used g c =
 
 pub returns-then-answer-clause-taken : goal.returns-then-answer-clause-taken
 returns-then-answer-clause-taken g c =
-    let files = g.H.Shelf.files c.args.shelf.now in let before = g.H.Shelf.faults c.args.shelf.now in let now = g.H.Shelf.faults c.answer.new.shelf in
+    let loaded = g.A.AnswersLines.loaded in let rep = g.A.AnswersLines.replies in
+    let files = g.H.Shelf.files c.args.shelf.now in let before = g.H.Shelf.faults c.args.shelf.now in let now = g.H.Shelf.faults c.answer_line.new.shelf in
     let held = c.find_line.new.self in let left = g.S.Source.left c.args.lines.now in let left' = g.S.Source.left c.find_line.new.lines in
     let holds = g.K.Sink.holds c.args.out.now in let holds' = g.K.Sink.holds c.say.new.out in let f = c.in-Ok-Some.found in let answer = c.in-Ok.answer in
     let found = subst (λ x. IsFound 1024 held left' x) c.in-Ok-Some.field-0-is c.in-Ok-Some.ensures.found in
-    taken_last BoardState (AnswersLine c.args.self.now.limits files) before now (loaded c.args.self.now) c.args.reader.now held left left' holds c.find_line.ensures.same f found (loaded c.answer.new.self)
+    taken_last g.A.AnswersLines.State (rep (g.A.AnswersLines.rules c.args.engine.now) files) before now (loaded c.args.engine.now) c.args.reader.now held left left' holds c.find_line.ensures.same f found (loaded c.answer_line.new.self)
     c.front.result.now c.drop_front.new.self c.front.ensures c.drop_front.ensures
-    answer.reply answer.quit holds' c.in-Ok.ensures.answered.0 c.if-answer.true (c.in-Ok-say.ensures.bytes ∙ ap (append_known holds) c.as_slice.ensures)
+    answer.reply answer.quit holds' c.in-Ok.ensures.answered c.if-answer.true (c.in-Ok-say.ensures.bytes ∙ ap (append_known holds) c.as_slice.ensures)
 
 pub returns-then-answer-clause-used : goal.returns-then-answer-clause-used
 returns-then-answer-clause-used g c =
@@ -42,13 +41,14 @@ returns-then-answer-clause-used g c =
 
 pub returns-clause-taken : goal.returns-clause-taken
 returns-clause-taken g c =
-    let files = g.H.Shelf.files c.args.shelf.now in let before = g.H.Shelf.faults c.args.shelf.now in let now = g.H.Shelf.faults c.answer.new.shelf in
+    let loaded = g.A.AnswersLines.loaded in let rep = g.A.AnswersLines.replies in
+    let files = g.H.Shelf.files c.args.shelf.now in let before = g.H.Shelf.faults c.args.shelf.now in let now = g.H.Shelf.faults c.answer_line.new.shelf in
     let held = c.find_line.new.self in let left = g.S.Source.left c.args.lines.now in let left' = g.S.Source.left c.find_line.new.lines in
     let holds = g.K.Sink.holds c.args.out.now in let holds' = g.K.Sink.holds c.say.new.out in let f = c.in-Ok-Some.found in let answer = c.in-Ok.answer in
     let found = subst (λ x. IsFound 1024 held left' x) c.in-Ok-Some.field-0-is c.in-Ok-Some.ensures.found in
-    taken_on BoardState (AnswersLine c.args.self.now.limits files) before now (loaded c.args.self.now) c.args.reader.now held left left' holds c.find_line.ensures.same f found (loaded c.answer.new.self)
+    taken_on g.A.AnswersLines.State (rep (g.A.AnswersLines.rules c.args.engine.now) files) before now (loaded c.args.engine.now) c.args.reader.now held left left' holds c.find_line.ensures.same f found (loaded c.answer_line.new.self)
     c.front.result.now c.drop_front.new.self c.front.ensures c.drop_front.ensures
-    answer.reply answer.quit holds' c.in-Ok.ensures.answered.0 c.if-answer.false (c.in-Ok-say.ensures.bytes ∙ ap (append_known holds) c.as_slice.ensures)
+    answer.reply answer.quit holds' c.in-Ok.ensures.answered c.if-answer.false (c.in-Ok-say.ensures.bytes ∙ ap (append_known holds) c.as_slice.ensures)
 
 pub returns-clause-used : goal.returns-clause-used
 returns-clause-used g c =

@@ -4,17 +4,16 @@ use Rattle.desk_io.specs.Lines.{UsesLines}
 use Rattle.gtp_words.specs.Loads.{RoseBy}
 use Rattle.gtp_words.proofs.SessionLemmas.{Going}
 use Rattle.gtp_words.proofs.FailedLoadLemmas.{AreBelow}
-use Rattle.gtp_engine.specs.Kept.{HasRoomFor}
-use Rattle.gtp_engine.specs.Session.{AnswersLine, Table, first_table}
-use Rattle.gtp_engine.specs.Written.{loaded}
-use Rattle.gtp_engine.proofs.engine.Engine.run.Given as goal
+use Rattle.gtp_words.proofs.sessions.run_session.Given as goal
 
 abbrev pub invariant-session : goal.invariant-session
-invariant-session g l = Going Table (AnswersLine l.fn.self.limits (g.H.Shelf.files l.fn.shelf)) first_table (g.S.Source.left l.fn.lines) (g.K.Sink.holds l.fn.out)
-    (loaded l.self) l._read l.reader (g.S.Source.left l.lines) (g.K.Sink.holds l.out)
-    × (l.self.limits ≡ l.fn.self.limits) × AreBelow l.self.loads × (l.self.loads.count ≤ l._read)
-    × RoseBy (length l.self.loads.failures) (g.H.Shelf.faults l.fn.shelf) (g.H.Shelf.faults l.shelf)
+invariant-session g l =
+    let loaded = g.A.AnswersLines.loaded in let rules = g.A.AnswersLines.rules in let loads = (loaded l.engine).loads in
+    Going g.A.AnswersLines.State (g.A.AnswersLines.replies (rules l.fn.engine) (g.H.Shelf.files l.fn.shelf)) (loaded l.fn.engine).state (g.S.Source.left l.fn.lines)
+    (g.K.Sink.holds l.fn.out) (loaded l.engine) l._read l.reader (g.S.Source.left l.lines) (g.K.Sink.holds l.out)
+    × (rules l.engine ≡ rules l.fn.engine) × AreBelow loads × (loads.count ≤ l._read)
+    × RoseBy (length loads.failures) (g.H.Shelf.faults l.fn.shelf) (g.H.Shelf.faults l.shelf)
     × (g.H.Shelf.files l.shelf ≡ g.H.Shelf.files l.fn.shelf) × (g.H.Shelf.faults l.fn.shelf ≤ g.H.Shelf.faults l.shelf)
     × (g.S.Source.faults l.fn.lines ≤ g.S.Source.faults l.lines) × (g.K.Sink.faults l.fn.out ≤ g.K.Sink.faults l.out)
     × UsesLines 1024 0 l._read [] (g.S.Source.left l.fn.lines) l.reader (g.S.Source.left l.lines) × (length l.reader ≤ 1024) × (l._read ≤ MOST_LINES)
-    × HasRoomFor (MOST_LINES - l._read) l.self.table
+    × g.A.AnswersLines.has_room (MOST_LINES - l._read) (loaded l.engine).state
