@@ -1,5 +1,5 @@
 -- A region that has the shape of a solved one is solved by that one's game, turned.
-use Rattle.std.proofs.Common.{◌≡◌, ℕ, ◌+◌, ◌-◌, ◌<◌, ◌≤◌, inl, inr, refl, sym, ap, ◌∙◌, subst, arith, min, List, [], map, length, get_or, Bool, true, false, Option, Some, None, IsTrue}
+use Rattle.std.proofs.Common.{◌≡◌, ℕ, ◌-◌, ◌<◌, ◌≤◌, inl, inr, refl, sym, ap, ◌∙◌, subst, arith, min, List, [], map, length, get_or, Bool, true, false, Option, IsTrue}
 use Rattle.std.proofs.lemmas.Bool.{cases_lt}
 use Rattle.std.proofs.lemmas.List.{get_or_default, get_or_past, get_or-map, length-map}
 use Rattle.go_grid.specs.declared.grid.Cell.{Cell}
@@ -7,8 +7,6 @@ use Rattle.go_grid.specs.declared.grid.Colour.{Colour}
 use Rattle.go_grid.specs.declared.grid.Colour.TheVariants.{Black, White}
 use Rattle.go_grid.specs.Region.{Region}
 use Rattle.local_play.specs.Packed.{pack}
-use Rattle.local_graph.specs.LocalGraph.{IsReachable}
-use Rattle.local_graph.specs.ReturnGraph.{ReturnGraph}
 use Rattle.local_graph.proofs.BuildLemmas.{not_more}
 use Rattle.short_games.specs.Parts.{HasMoreParts}
 use Rattle.short_games.specs.TextOrder.{IsCanonicalTree}
@@ -17,8 +15,8 @@ use Rattle.short_games.proofs.OrderLaws.{le-refl}
 use Rattle.game_store.specs.Forms.{HaveForms}
 use Rattle.game_canon.specs.Changes.{HasNumberPastBounds}
 use Rattle.game_canon.proofs.NumberPartLaws.{within-bounds}
-use Rattle.local_value.specs.BudgetValues.{IsNeeded, IsReturnGraphOf, layer_with, plain_graph}
-use Rattle.local_value.specs.Steady.{IsBudgetValue, IsLeastSteady, IsSteady}
+use Rattle.local_value.specs.BudgetValues.{IsReturnGraphOf, layer_with, plain_graph}
+use Rattle.local_value.specs.Steady.{IsBudgetValue, IsSteady}
 use Rattle.local_value.specs.Values.{IsPlaceOf}
 use Rattle.local_value.proofs.MoveLaws.{graph_position}
 use Rattle.region_book.specs.Shape.{colour_after}
@@ -26,15 +24,15 @@ use Rattle.endgame_solver.specs.declared.limits.Limits.{Limits}
 use Rattle.endgame_solver.specs.inner.Sharing.{AreNegatives, IsTurnedValue}
 use Rattle.endgame_solver.proofs.CarriedLaws.{Matched}
 use Rattle.endgame_solver.proofs.GraphLaws.{positions_few}
-use Rattle.cycle_solver.specs.CycleFaults.{HasLargeNeeded, IsSteadyWithin}
+use Rattle.cycle_solver.specs.CycleFaults.{HasLargeNeeded}
 use Rattle.cycle_solver.specs.declared.region_game.RegionGame.{RegionGame}
 use Rattle.cycle_solver.specs.declared.views.View.{View}
 use Rattle.cycle_solver.specs.GameLists.{layers_for}
 use Rattle.cycle_solver.specs.Games.{IsSolvedBy}
 use Rattle.cycle_solver.specs.Held.{AreLayersOf, ids_with}
 use Rattle.cycle_solver.specs.inner.Shared.{AreNoted, IsNoted}
-use Rattle.cycle_solver.specs.Turned.{id_after, layers_after, negative_in, or_zero, own_game, own_graph, own_number}
-use Rattle.cycle_solver.proofs.OwnGraphLaws.{graph_turned, position_of}
+use Rattle.cycle_solver.specs.Turned.{id_after, layers_after, or_zero, own_game, own_number}
+use Rattle.cycle_solver.proofs.OwnGraphLaws.{position_of}
 use Rattle.cycle_solver.proofs.OwnReturnLaws.{return_graph_turned}
 use Rattle.cycle_solver.proofs.OwnValueLaws.{colour_twice, least_over, one_budget_value, same_long, steady_over, value_over}
 

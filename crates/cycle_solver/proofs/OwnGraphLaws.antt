@@ -1,5 +1,5 @@
 -- Where a pairing carries one opening onto another, the graph of the first region, turned, is a graph of the second.
-use Rattle.std.proofs.Common.{zero-add, ◌≡◌, ◌≢◌, ℕ, zero, suc, ◌+◌, ◌*◌, ◌/◌, ◌%◌, ◌<◌, ◌≤◌, ◌⊎◌, ◌↔◌, inl, inr, refl, sym, ap, ◌∙◌, subst, arith, cond, ltb, eqb, List, [], ◌∷◌, map, length, get_or, Bool, true, false, Contains, AllPairs}
+use Rattle.std.proofs.Common.{zero-add, ◌≡◌, ◌≢◌, ℕ, zero, suc, ◌+◌, ◌*◌, ◌/◌, ◌%◌, ◌<◌, ◌≤◌, ◌⊎◌, inl, inr, refl, sym, ap, ◌∙◌, subst, arith, cond, ltb, eqb, List, [], ◌∷◌, map, length, get_or, Bool, true, false, Contains, AllPairs}
 use Rattle.std.specs.List.{position_or_len, range_with_len}
 use Rattle.std.proofs.lemmas.Bool.{cases_Bool, cases_lt, both_ways, eq-eqb, eqb-true, ltb-true, ltb-false}
 use Rattle.std.proofs.lemmas.List.{get_or_default, get_or-map, get_or_past, length-map}
@@ -13,7 +13,7 @@ use Rattle.go_grid.specs.declared.grid.Colour.TheVariants.{Black, White}
 use Rattle.go_grid.specs.Region.{Region}
 use Rattle.local_play.specs.declared.local_move.LocalMove.{LocalMove}
 use Rattle.local_play.specs.LocalPlay.{held_at, IsLocalMove}
-use Rattle.local_play.specs.Moves.{IsMoveFrom, ListsLocalMoves, StandsBefore}
+use Rattle.local_play.specs.Moves.{IsMoveFrom, ListsLocalMoves}
 use Rattle.local_play.specs.Packed.{code, pack}
 use Rattle.local_play.proofs.PackLemmas.{pack_cons, pack_nil, pack_same}
 use Rattle.local_graph.specs.declared.cycle.CycleMove.{CycleMove}

@@ -1,18 +1,15 @@
 -- The turned graph tells which moves return, as the graph of the first region does.
-use Rattle.std.proofs.Common.{◌≡◌, ℕ, ◌<◌, ◌≤◌, ◌↔◌, refl, sym, ap, ◌∙◌, subst, arith, List, length, get_or, Contains, Option, Some, None, Bool, false, true}
+use Rattle.std.proofs.Common.{◌≡◌, ℕ, ◌≤◌, ◌↔◌, refl, sym, ap, ◌∙◌, subst, arith, List, length, get_or, Contains, Option, Some, None, Bool}
 use Rattle.std.proofs.lemmas.List.{length-map}
 use Rattle.go_grid.specs.declared.grid.Cell.{Cell}
 use Rattle.go_grid.specs.declared.grid.Colour.{Colour}
 use Rattle.go_grid.specs.declared.grid.Colour.TheVariants.{Black, White}
 use Rattle.go_grid.specs.Region.{Region}
 use Rattle.local_graph.specs.declared.graph.Edge.{Edge}
-use Rattle.local_graph.specs.FiniteLocalPlay.{HasNoCycle}
 use Rattle.local_graph.specs.inner.Graph.{edges_at}
 use Rattle.local_graph.specs.LocalGraph.{IsReachable}
 use Rattle.local_graph.specs.ReturnGraph.{IsOrderBetweenCaptures, IsReturningCaptureAt, ReturnGraph, StaysIn, TellReturns, order_for}
-use Rattle.local_graph.proofs.EdgeListLemmas.{node_inside}
 use Rattle.local_value.specs.BudgetValues.{IsReturnGraphOf, plain_graph}
-use Rattle.local_value.specs.Values.{IsPlaceOf}
 use Rattle.local_value.proofs.MoveLaws.{graph_move}
 use Rattle.region_book.specs.Shape.{colour_after}
 use Rattle.region_book.proofs.SymmetryLaws.{colour_back}

@@ -1,14 +1,12 @@
 -- Where a pairing carries one opening onto another, trees with budgets are carried over: they are equal, or the one is the negative of the
 -- other. So are budgets at which a region is steady, and values.
-use Rattle.std.proofs.Common.{◌≡◌, ℕ, zero, suc, pos, neg_ℤ, ◌+◌, ◌*◌, ◌^◌, ◌<◌, inl, inr, refl, sym, ap, ◌∙◌, subst, arith, List, length, Bool, true, false}
+use Rattle.std.proofs.Common.{◌≡◌, ℕ, zero, suc, pos, neg_ℤ, ◌+◌, ◌*◌, ◌^◌, inl, inr, refl, sym, ap, ◌∙◌, subst, arith, List, length, Bool, true, false}
 use Rattle.std.proofs.Math.IntN.{neg_ℤ-neg_ℤ}
 use Rattle.go_grid.specs.declared.grid.Cell.{Cell}
 use Rattle.go_grid.specs.declared.grid.Colour.{Colour}
 use Rattle.go_grid.specs.declared.grid.Colour.TheVariants.{Black, White}
 use Rattle.go_grid.specs.declared.region.Touch.{Touch}
-use Rattle.local_play.specs.LocalPlay.{IsNumberTaken}
 use Rattle.local_graph.specs.LocalGraph.{IsReachable}
-use Rattle.local_graph.proofs.PlayLemmas.{plays_long}
 use Rattle.short_games.specs.Tree.{Tree, node, none, left, right, Has, neg}
 use Rattle.short_games.specs.Number.{num}
 use Rattle.short_games.specs.Order.{◌≡ᵍ◌}

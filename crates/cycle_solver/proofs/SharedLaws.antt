@@ -1,8 +1,8 @@
 -- Regions are solved one after the other, each by the game of the first that has its shape.
-use Rattle.std.proofs.Common.{ℕ, suc, ◌≡◌, ◌+◌, ◌-◌, ◌<◌, ◌≤◌, arith, below_more, inl, inr, min, refl, sym, ap, ◌∙◌, subst, Bool, true, false, List, [], ◌∷◌, ◌++◌, map, length, get_or, Contains, IsTrue, MatchOption, Option, Some, None}
+use Rattle.std.proofs.Common.{ℕ, suc, ◌≡◌, ◌+◌, ◌-◌, ◌<◌, ◌≤◌, arith, inl, inr, min, refl, sym, ap, ◌∙◌, subst, Bool, true, false, List, [], ◌∷◌, ◌++◌, map, length, get_or, Contains, IsTrue, MatchOption, Option, Some, None}
 use Rattle.std.proofs.lemmas.Bool.{cases_lt}
 use Rattle.std.proofs.lemmas.List.{get_or_append_left, get_or_default, get_or-map, get_or_past, get_or_push, length-append, length-map, length_push, map-append}
-use Rattle.std.proofs.lemmas.List.Elements.{Contains-get_or, Contains-push_cases}
+use Rattle.std.proofs.lemmas.List.Elements.{Contains-push_cases}
 use Rattle.go_grid.specs.declared.grid.Colour.{Colour}
 use Rattle.go_grid.specs.Region.{Region, IsRegion}
 use Rattle.region_book.specs.Image.{IsShape}
@@ -24,7 +24,6 @@ use Rattle.endgame_solver.specs.ShapeValues.{AreLinked}
 use Rattle.endgame_solver.specs.declared.limits.Limits.{Limits}
 use Rattle.endgame_solver.specs.inner.Sharing.{AreNegatives}
 use Rattle.endgame_solver.proofs.CarriedLaws.{Matched, link_in}
-use Rattle.endgame_solver.proofs.SharingLaws.{negatives_later}
 use Rattle.cycle_solver.specs.declared.book.Book.{Book}
 use Rattle.cycle_solver.specs.declared.region_game.RegionGame.{RegionGame}
 use Rattle.cycle_solver.specs.declared.shapes.Kind.{Kind}

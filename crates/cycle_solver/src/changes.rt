@@ -1,15 +1,12 @@
 //! What a move changes of the present state, and who wins behind it.
 
-ghost use Rattle.std.specs.Prelude.{◌≡◌, ◌↔◌, ◌<◌, ℕ, Contains, IfSome, IsTrue, MatchOption, length, slice_set};
+ghost use Rattle.std.specs.Prelude.{◌≡◌, ◌↔◌, ◌<◌, ℕ, IfSome, IsTrue, MatchOption, length, slice_set};
 ghost use Rattle.local_graph.specs.declared.graph.Edge.{Edge};
-ghost use Rattle.local_graph.specs.inner.Graph.{edges_at};
 ghost use Rattle.sum_outcome.specs.Memo.{Fits};
 ghost use Rattle.whole_rules.specs.declared.states.Move.{Move};
 ghost use Rattle.whole_rules.specs.declared.states.Move.TheVariants.{Stone};
 ghost use Rattle.whole_rules.specs.FirstWinningMove.{IsWinner};
 ghost use Rattle.whole_rules.specs.WholeGame.{IsLegal, IsMove, Whole};
-ghost use Rattle.endgame_solver.specs.Regions.{IsStoneAt};
-ghost use Rattle.local_graph.specs.ReturnGraph.{IsReturningCaptureAt};
 ghost use Rattle.cycle_solver.specs.Held.{AreSummedBy, HaveEdges, IsSeen, IsSeenFor, IsStoneEdge, enough};
 ghost use Rattle.cycle_solver.specs.Changes.{AreBehind, IsChange, IsSomeChange, places_after};
 

@@ -1,6 +1,6 @@
 //! Who wins with a budget for each region, and the least budgets with which the side to move wins.
 
-ghost use Rattle.std.specs.Prelude.{◌≡◌, ◌+◌, ◌<◌, ◌↔◌, ℕ, IsTrue, length, slice_set};
+ghost use Rattle.std.specs.Prelude.{◌≡◌, ◌<◌, ◌↔◌, ℕ, IsTrue, length, slice_set};
 ghost use Rattle.sum_outcome.specs.Memo.{Fits};
 ghost use Rattle.whole_budgets.specs.EnginePlay.{AreReducedBelow, IsLeastAt, WinsWithList};
 ghost use Rattle.cycle_solver.specs.Held.{AreSummedWith, HavePlaces, IsSeen, IsSeenFor, enough};

@@ -1,6 +1,6 @@
 //! The games of regions, one after the other. Regions of one shape have one in common.
 
-ghost use Rattle.std.specs.Prelude.{◌≡◌, ℕ, ◌+◌, ◌^◌, ◌<◌, ◌≤◌, ◌++◌, IfErr, IfOk, List, OnOk, length, min, slice_index_or};
+ghost use Rattle.std.specs.Prelude.{◌≡◌, ◌+◌, ◌^◌, ◌<◌, ◌≤◌, ◌++◌, IfErr, IfOk, List, OnOk, length, min};
 ghost use Rattle.game_store.specs.Meaning.{Extends};
 ghost use Rattle.region_book.specs.Image.{IsShape};
 ghost use Rattle.endgame_solver.specs.Faults.{AreSmallRegions, most_steps};

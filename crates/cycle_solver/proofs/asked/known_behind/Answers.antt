@@ -1,4 +1,4 @@
-use Rattle.std.proofs.Common.{◌<◌, arith, length}
+use Rattle.std.proofs.Common.{arith}
 use Rattle.cycle_solver.proofs.AskedLaws.{known_won}
 use Rattle.cycle_solver.proofs.ChangeLaws.{stone_inside, stone_known}
 use Rattle.cycle_solver.proofs.asked.known_behind.Goals as goal

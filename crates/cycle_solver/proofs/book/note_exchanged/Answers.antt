@@ -1,7 +1,5 @@
-use Rattle.std.proofs.Common.{◌∙◌, ap, [], Contains, IsTrue, refl, subst, sym}
+use Rattle.std.proofs.Common.{◌∙◌, [], Contains, refl, subst, sym}
 use Rattle.std.proofs.lemmas.List.{append-nil, get_or_default}
-use Rattle.go_grid.specs.declared.grid.Colour.{Colour}
-use Rattle.cycle_solver.specs.declared.views.View.{View}
 use Rattle.cycle_solver.specs.GameLists.{game_at, layers_for, no_game}
 use Rattle.cycle_solver.specs.inner.Shared.{AreLayersOfIds, AreNoted}
 use Rattle.cycle_solver.proofs.SharedLaws.{notes_later}

@@ -1,4 +1,4 @@
-use Rattle.std.proofs.Common.{◌<◌, ◌∙◌, arith, get_or, length, slice_index, subst, sym}
+use Rattle.std.proofs.Common.{◌∙◌, arith, get_or}
 use Rattle.cycle_solver.specs.GameLists.{game_at}
 use Rattle.cycle_solver.specs.Held.{ids_with, place_at}
 use Rattle.cycle_solver.proofs.LeastLaws.{budget_put}

@@ -1,6 +1,6 @@
-use Rattle.std.proofs.Common.{None, Some, subst, sym}
+use Rattle.std.proofs.Common.{None, Some, subst}
 use Rattle.go_grid.specs.declared.grid.Colour.TheVariants.{Black, White}
-use Rattle.cycle_solver.specs.inner.Shared.{AreLayersOfIds, AreNoted, HaveRoom}
+use Rattle.cycle_solver.specs.inner.Shared.{AreLayersOfIds, HaveRoom}
 use Rattle.cycle_solver.proofs.NoteLaws.{all_noted-on, both_noted, ids_on, room_on, white_is}
 use Rattle.cycle_solver.proofs.negatives.note_both.Goals as goal
 

@@ -1,4 +1,4 @@
-use Rattle.std.proofs.Common.{ℕ, ◌≡◌, ◌≤◌, ◌∙◌, None, ap, arith, get_or, length, subst, sym}
+use Rattle.std.proofs.Common.{◌≤◌, ◌∙◌, None, ap, arith, get_or, length, subst, sym}
 use Rattle.go_grid.specs.declared.grid.Colour.{Colour}
 use Rattle.endgame_solver.specs.inner.Sharing.{AreNegatives}
 use Rattle.endgame_solver.proofs.SharingLaws.{lent_back}

@@ -1,4 +1,4 @@
-use Rattle.std.proofs.Common.{ℕ, ◌+◌, ◌-◌, ◌<◌, ◌≡◌, ◌∙◌, [], ap, arith, below_more, get_or, length, subst, sym}
+use Rattle.std.proofs.Common.{◌+◌, ◌-◌, ◌<◌, ◌≡◌, ◌∙◌, [], arith, below_more, get_or, length, subst}
 use Rattle.cycle_solver.specs.inner.Shared.{AreNotedIn}
 use Rattle.cycle_solver.proofs.NoteLaws.{noted_in-on, noted_more, served_own}
 use Rattle.cycle_solver.proofs.negatives.note_values.Goals as goal

@@ -1,4 +1,4 @@
-use Rattle.std.proofs.Common.{◌<◌, arith, length}
+use Rattle.std.proofs.Common.{arith}
 use Rattle.go_grid.specs.declared.grid.Colour.TheVariants.{Black, White}
 use Rattle.cycle_solver.proofs.ChangeLaws.{stone_inside, stone_known}
 use Rattle.cycle_solver.proofs.one_sum.has_one_value.Goals as goal

@@ -1,11 +1,11 @@
-use Rattle.std.proofs.Common.{ℕ, ◌≡◌, ◌≤◌, ◌∙◌, length, refl, subst, sym}
+use Rattle.std.proofs.Common.{◌≤◌, length, refl, subst, sym}
 use Rattle.std.proofs.lemmas.List.{get_or_read}
 use Rattle.go_grid.specs.Region.{Region}
 use Rattle.endgame_solver.specs.Regions.{no_region}
 use Rattle.endgame_solver.proofs.SharingLaws.{negatives_later}
 use Rattle.cycle_solver.specs.declared.book.Book.{Book}
 use Rattle.cycle_solver.specs.GameLists.{game_at}
-use Rattle.cycle_solver.specs.Games.{IsRefusalOf, IsSolvedBy}
+use Rattle.cycle_solver.specs.Games.{IsSolvedBy}
 use Rattle.cycle_solver.specs.Turned.{own_game}
 use Rattle.cycle_solver.proofs.NoteLaws.{keeps-all}
 use Rattle.cycle_solver.proofs.SharedLaws.{ids_of_kind, notes_later, partner_for, seen_solved, shared_next}

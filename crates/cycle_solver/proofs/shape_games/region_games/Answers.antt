@@ -1,4 +1,4 @@
-use Rattle.std.proofs.Common.{◌^◌, arith, get_or, length, min, refl}
+use Rattle.std.proofs.Common.{◌^◌, arith, get_or, length, min}
 use Rattle.std.proofs.lemmas.List.Elements.{Contains-get_or}
 use Rattle.std.proofs.lemmas.List.Sums.{sum_by_more, sum_by_more_le}
 use Rattle.std.proofs.lemmas.Result.{err_from_is_err_and}

@@ -1,4 +1,4 @@
-use Rattle.std.proofs.Common.{ap, subst, sym}
+use Rattle.std.proofs.Common.{subst, sym}
 use Rattle.std.proofs.lemmas.Bool.{both_ways}
 use Rattle.endgame_solver.specs.Regions.{IsStoneAt}
 use Rattle.cycle_solver.proofs.ChangeLaws.{no_own_more}

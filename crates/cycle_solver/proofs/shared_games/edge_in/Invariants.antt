@@ -1,5 +1,3 @@
-use Rattle.std.proofs.Common.{map}
-use Rattle.cycle_solver.specs.Turned.{own}
 use Rattle.cycle_solver.proofs.ChangeLaws.{NoOwnBefore}
 use Rattle.cycle_solver.proofs.shared_games.edge_in.Given as goal
 

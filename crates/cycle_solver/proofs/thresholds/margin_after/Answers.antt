@@ -1,4 +1,4 @@
-use Rattle.std.proofs.Common.{◌<◌, ◌∙◌, ◌∷◌, [], ap, arith, length, set, subst, sym}
+use Rattle.std.proofs.Common.{◌∙◌, ◌∷◌, [], ap, arith, set, subst, sym}
 use Rattle.go_grid.specs.Board.{other}
 use Rattle.endgame_solver.proofs.MarginLaws.{halves_back}
 use Rattle.cycle_solver.specs.Thresholds.{IsMarginFor}

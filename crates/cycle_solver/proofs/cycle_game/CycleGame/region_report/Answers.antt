@@ -7,8 +7,6 @@ use Rattle.endgame_solver.specs.Regions.{region_at, no_region}
 use Rattle.endgame_solver.specs.Solved.{IsNumberOfPositions}
 use Rattle.cycle_solver.specs.declared.cycle_game.CycleReport.{CycleReport}
 use Rattle.cycle_solver.specs.Begun.{IsReport, IsSteadyId}
-use Rattle.cycle_solver.specs.GameLists.{game_at}
-use Rattle.cycle_solver.specs.Held.{ids_with}
 use Rattle.cycle_solver.proofs.BeginLaws.{few_points, lowest_on_board, opening_id, opening_value}
 use Rattle.cycle_solver.proofs.cycle_game.CycleGame.region_report.Goals as goal
 

@@ -1,8 +1,8 @@
-use Rattle.std.proofs.Common.{◌≡◌, ◌<◌, ◌∙◌, ap, arith, get_or, length, subst, sym}
+use Rattle.std.proofs.Common.{◌<◌, ◌∙◌, ap, arith, length, subst, sym}
 use Rattle.std.proofs.lemmas.List.{length-map}
 use Rattle.local_graph.specs.inner.Graph.{edges_at}
 use Rattle.cycle_solver.specs.GameLists.{game_at}
-use Rattle.cycle_solver.specs.Turned.{own_edges, own_game, shown}
+use Rattle.cycle_solver.specs.Turned.{own_edges, own_game}
 use Rattle.cycle_solver.proofs.SharedLaws.{edges_shown, stones_over}
 use Rattle.cycle_solver.proofs.shared_games.RegionGames.stone.Goals as goal
 
