@@ -1,7 +1,6 @@
 //! Analyses of the present position where kos can arise.
 
 ghost use Rattle.std.specs.Prelude.{◌≡◌, ◌≤◌, ◌<◌, ◌+◌, ◌^◌, List, false, IfOk};
-ghost use Rattle.go_grid.specs.Chain.{IsSettled};
 ghost use Rattle.go_grid.specs.Region.{Region};
 ghost use Rattle.region_cut.specs.Cut.{AreRegionsOfPlay};
 ghost use Rattle.sgf_go.specs.Position.{IsFit};
