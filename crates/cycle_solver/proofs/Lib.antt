@@ -13,6 +13,7 @@ pub mod OwnGameLaws
 pub mod OwnGraphLaws
 pub mod OwnReturnLaws
 pub mod OwnValueLaws
+pub mod ShapeLaws
 pub mod SharedLaws
 pub mod SumLaws
 pub mod StoneLaws

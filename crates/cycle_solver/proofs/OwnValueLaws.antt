@@ -49,7 +49,7 @@ unfolding neg
 none-after false = refl
 none-after true = refl
 
-after-same : (colours : Bool) (G V : Tree) → G ≡ᵍ V → game_after colours G ≡ᵍ game_after colours V
+pub after-same : (colours : Bool) (G V : Tree) → G ≡ᵍ V → game_after colours G ≡ᵍ game_after colours V
 after-same false G V same = same
 after-same true G V same = (neg-le V G same.1, neg-le G V same.0)
 
@@ -112,7 +112,7 @@ module _ (touch touch' : List Touch) {Paired : ℕ → ℕ → Type 0} {colours 
         matched_back w,
       )
 
-  trees_over : (owner : Colour) (n j : ℕ) {a b : List Cell} → Matched touch touch' Paired colours a b → (G H : Tree)
+  pub trees_over : (owner : Colour) (n j : ℕ) {a b : List Cell} → Matched touch touch' Paired colours a b → (G H : Tree)
       → IsBudgetTreeWithin touch owner n j a G → IsBudgetTreeWithin touch' (colour_after colours owner) n j b H → G ≡ᵍ game_after colours H
   trees_over owner zero j m G H g k = same-path _ _ (g ∙ none-after colours ∙ ap (game_after colours) (sym k))
   trees_over owner (suc n) j m G H g k = same_options G (game_after colours H)

@@ -25,7 +25,7 @@ mod winning_moves;
 pub use asking::{Present, Start, captures_of, start_of, winner_of};
 pub use cycle_game::{CycleGame, CycleReport};
 pub use faults::CycleError;
-pub use laws::cycle_threshold_laws;
+pub use laws::{cycle_shape_laws, cycle_threshold_laws};
 pub use region_game::{RegionGame, values_for};
 pub use shape_games::region_games;
 pub use shared_games::RegionGames;
