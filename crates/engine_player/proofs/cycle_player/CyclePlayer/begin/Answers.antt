@@ -15,3 +15,7 @@ invariant_of-result g c =
 pub returns-in_err-white-clause-begun : goal.returns-in_err-white-clause-begun
 returns-in_err-white-clause-begun g c =
     let p = err_from_is_err_and c.from_residual-in_err-white.result c.from_residual-in_err-white.ensures.1 in rw (p.1, p.2) tt
+
+pub returns-in_err-black-clause-begun : goal.returns-in_err-black-clause-begun
+returns-in_err-black-clause-begun g c =
+    let p = err_from_is_err_and c.from_residual-in_err-black.result c.from_residual-in_err-black.ensures.1 in rw (p.1, p.2) tt
