@@ -4,6 +4,7 @@ ghost use Rattle.std.specs.Prelude.{◌≡◌, ◌↔◌, IsTrue, MatchOption};
 ghost use Rattle.go_grid.specs.Board.{other};
 ghost use Rattle.go_grid.specs.declared.grid.Colour.TheVariants.{Black, White};
 ghost use Rattle.sum_outcome.specs.Memo.{Fits};
+ghost use Rattle.whole_rules.specs.declared.states.Move.TheVariants.{Stone};
 ghost use Rattle.whole_rules.specs.FirstWinningMove.{IsFirstWinning, IsWinning};
 ghost use Rattle.whole_rules.specs.WholeGame.{IsLegal};
 ghost use Rattle.endgame_solver.specs.inner.Held.{IsFirstStone};
@@ -35,6 +36,20 @@ fn move_wins(present: &Present<'_>, search: &mut Search, sum: &mut [GameId], cho
     }
 }
 
+/// Whether a stone of the side to move wins, as at contested points alone it may. The sum has that side's values.
+fn stone_wins(present: &Present<'_>, search: &mut Search, sum: &mut [GameId], point: Point) -> bool
+    requires seen { IsSeenFor present.now present.now.whole.now.side enough sum.old }
+    requires fits { Fits present.now.store.now search.old }
+    ensures wins { IsTrue result ↔ IsWinning present.now.whole.now (Stone point) }
+    ensures same { sum.new ≡ sum.old }
+    ensures fits { Fits present.now.store.now search.new }
+{
+    if !present.whole.contested(point) {
+        return false;
+    }
+    move_wins(present, search, sum, Move::Stone(point))
+}
+
 /// The lowest point at which a stone wins.
 fn winning_stone(present: &Present<'_>, search: &mut Search, sum: &mut [GameId]) -> Option<Point>
     requires seen { IsSeenFor present.now present.now.whole.now.side enough sum.old }
@@ -44,7 +59,7 @@ fn winning_stone(present: &Present<'_>, search: &mut Search, sum: &mut [GameId])
     ensures fits { Fits present.now.store.now search.new }
 {
     'points: for number in 0..present.whole.board().size().area() {
-        if move_wins(present, search, sum, Move::Stone(Point(number))) {
+        if stone_wins(present, search, sum, Point(number)) {
             return Some(Point(number));
         }
     }

@@ -6,22 +6,22 @@ use Rattle.endgame_solver.proofs.WinningLaws.{no_stone_end}
 use Rattle.cycle_solver.specs.Held.{IsSeenFor, enough}
 use Rattle.cycle_solver.proofs.winning_moves.winning_stone.Goals as goal
 
-pub move_wins-requires-clause-seen : goal.move_wins-requires-clause-seen
-move_wins-requires-clause-seen c =
+pub stone_wins-requires-clause-seen : goal.stone_wins-requires-clause-seen
+stone_wins-requires-clause-seen c =
     subst (IsSeenFor c.args.present.now c.args.present.now.whole.now.side enough) (sym c.points.invariant.0) c.requires.seen
 
-pub returns-then-move_wins-clause-first : goal.returns-then-move_wins-clause-first
-returns-then-move_wins-clause-first c = (omega (arith, c.points-test.true, c.area-number-end.ensures), c.move_wins.ensures.wins.0 c.if-move_wins.true, c.points.invariant.2)
+pub returns-then-stone_wins-clause-first : goal.returns-then-stone_wins-clause-first
+returns-then-stone_wins-clause-first c = (omega (arith, c.points-test.true, c.area-number-end.ensures), c.stone_wins.ensures.wins.0 c.if-stone_wins.true, c.points.invariant.2)
 
-pub returns-then-move_wins-clause-same : goal.returns-then-move_wins-clause-same
-returns-then-move_wins-clause-same c = c.move_wins.ensures.same ∙ c.points.invariant.0
+pub returns-then-stone_wins-clause-same : goal.returns-then-stone_wins-clause-same
+returns-then-stone_wins-clause-same c = c.stone_wins.ensures.same ∙ c.points.invariant.0
 
 pub points-preserved : goal.points-preserved
 points-preserved c = (
-  c.move_wins.ensures.same ∙ c.points.invariant.0,
-  c.move_wins.ensures.fits,
+  c.stone_wins.ensures.same ∙ c.points.invariant.0,
+  c.stone_wins.ensures.fits,
   below_more (λ q. ¬ IsWinning c.args.present.now.whole.now (Stone q)) c.points.number c.points.invariant.2
-      (λ w. both_ways c.move_wins.result c.if-move_wins.false (c.move_wins.ensures.wins.1 w)),
+      (λ w. both_ways c.stone_wins.result c.if-stone_wins.false (c.stone_wins.ensures.wins.1 w)),
 )
 
 pub returns-clause-first : goal.returns-clause-first
