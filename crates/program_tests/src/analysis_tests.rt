@@ -1,8 +1,8 @@
 //! What `board`, `margin`, `moves` and `line` write.
 
-use crate::runs::{COPY, Row, first_wrong};
-use endgame_run::Status;
-use std::test::Fail;
+use crate::endings::Ends;
+use crate::files::COPY;
+use crate::runs::{Row, first_wrong};
 
 const TIE_BOARD: &str =
     "size 8 2\nside black\nkomi 0\nprisoners black 0\nprisoners white 0\nrow .X.XO.O.\nrow XXXXOOOO\n";
@@ -56,106 +56,85 @@ const NEUTRAL_LINE: &str = "side black\nkomi 0\nwinner black\nthreshold 0\nline 
 const COPY_LINE: &str = "side white\nkomi 6.5\nwinner white\nthreshold 0.5\nline 1 white:ea\n";
 
 /// Files of the shelf, and one of the source.
-const RUNS: [Row; 30] = [
-    ("board~a", b"", Status::Done, TIE_BOARD),
-    ("board~-", COPY, Status::Done, COPY_BOARD),
+static RUNS: [Row; 30] = [
+    ("board~a", b"", Ends::Done, TIE_BOARD),
+    ("board~-", COPY, Ends::Done, COPY_BOARD),
     (
         "board~-~--turn~black~--komi~-3.5~--black-prisoners~7~--white-prisoners~999999",
         COPY,
-        Status::Done,
+        Ends::Done,
         COPY_OPTIONS,
     ),
-    ("board~a~--positions~5", b"", Status::Usage, "fault usage\n"),
-    ("board~a~--tax~no", b"", Status::Usage, "fault usage\n"),
-    (
-        "board~nobody",
-        b"",
-        Status::CannotRead,
-        "fault cannot read\n",
-    ),
-    ("margin~a", b"", Status::Done, TIE_MARGIN),
-    ("margin~d~--komi~-0.5", b"", Status::Done, CORRIDOR_MARGIN),
-    ("margin~visited", b"", Status::Done, VISITED_MARGIN),
+    ("board~a~--positions~5", b"", Ends::Usage, "fault usage\n"),
+    ("board~a~--tax~no", b"", Ends::Usage, "fault usage\n"),
+    ("board~nobody", b"", Ends::CannotRead, "fault cannot read\n"),
+    ("margin~a", b"", Ends::Done, TIE_MARGIN),
+    ("margin~d~--komi~-0.5", b"", Ends::Done, CORRIDOR_MARGIN),
+    ("margin~visited", b"", Ends::Done, VISITED_MARGIN),
     (
         "margin~f~--turn~white~--komi~6.5",
         b"",
-        Status::Done,
+        Ends::Done,
         LONG_MARGIN,
     ),
-    ("margin~g~--tax~yes", b"", Status::Done, TAX_MARGIN),
-    ("margin~-", COPY, Status::Done, COPY_MARGIN),
+    ("margin~g~--tax~yes", b"", Ends::Done, TAX_MARGIN),
+    ("margin~-", COPY, Ends::Done, COPY_MARGIN),
     (
         "margin~d~--positions~7",
         b"",
-        Status::RegionLimit,
+        Ends::RegionLimit,
         "fault region eb positions over 7\n",
     ),
-    ("moves~d", b"", Status::Done, CORRIDOR_MOVES),
+    ("moves~d", b"", Ends::Done, CORRIDOR_MOVES),
     (
         "moves~d~--turn~white~--komi~0.5",
         b"",
-        Status::Done,
+        Ends::Done,
         WHITE_MOVES,
     ),
     (
         "moves~a~--turn~white~--komi~0.5",
         b"",
-        Status::Done,
+        Ends::Done,
         HALF_MOVES,
     ),
-    ("moves~f~--komi~-1.5", b"", Status::Done, LONG_MOVES),
-    (
-        "moves~d~--parts~1",
-        b"",
-        Status::FormLimit,
-        "fault form eb\n",
-    ),
+    ("moves~f~--komi~-1.5", b"", Ends::Done, LONG_MOVES),
+    ("moves~d~--parts~1", b"", Ends::FormLimit, "fault form eb\n"),
     (
         "moves~e",
         b"",
-        Status::Cycle,
+        Ends::Cycle,
         "fault cycle eb 1 black:fb white:eb black:fb\n",
     ),
-    ("moves~a~--as~black", b"", Status::Usage, "fault usage\n"),
-    ("line~a", b"", Status::Done, TIE_LINE),
-    ("line~d~--komi~-0.5", b"", Status::Done, CORRIDOR_LINE),
-    ("line~d~--turn~white", b"", Status::Done, WHITE_LINE),
-    (
-        "line~f~--turn~white~--komi~6.5",
-        b"",
-        Status::Done,
-        LONG_LINE,
-    ),
+    ("moves~a~--as~black", b"", Ends::Usage, "fault usage\n"),
+    ("line~a", b"", Ends::Done, TIE_LINE),
+    ("line~d~--komi~-0.5", b"", Ends::Done, CORRIDOR_LINE),
+    ("line~d~--turn~white", b"", Ends::Done, WHITE_LINE),
+    ("line~f~--turn~white~--komi~6.5", b"", Ends::Done, LONG_LINE),
     (
         "line~c~--black-prisoners~5~--white-prisoners~5",
         b"",
-        Status::Done,
+        Ends::Done,
         NEUTRAL_LINE,
     ),
-    ("line~-", COPY, Status::Done, COPY_LINE),
+    ("line~-", COPY, Ends::Done, COPY_LINE),
     (
         "line~d~--positions~7",
         b"",
-        Status::RegionLimit,
+        Ends::RegionLimit,
         "fault region eb positions over 7\n",
     ),
-    (
-        "line~d~--parts~1",
-        b"",
-        Status::FormLimit,
-        "fault form eb\n",
-    ),
+    ("line~d~--parts~1", b"", Ends::FormLimit, "fault form eb\n"),
     (
         "line~e",
         b"",
-        Status::Cycle,
+        Ends::Cycle,
         "fault cycle eb 1 black:fb white:eb black:fb\n",
     ),
-    ("line~a~--as~black", b"", Status::Usage, "fault usage\n"),
+    ("line~a~--as~black", b"", Ends::Usage, "fault usage\n"),
 ];
 
 #[test]
-fn boards_margins_moves_and_lines(rt: HostRuntime) -> Result<(), Fail> {
-    assert_eq!(rt; first_wrong(rt.alloc(), &RUNS)?, None);
-    Ok(())
+fn boards_margins_moves_and_lines(rt: HostRuntime) {
+    assert_eq!(rt; first_wrong(rt.alloc(), &RUNS), None);
 }

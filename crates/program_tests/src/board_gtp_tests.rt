@@ -1,8 +1,7 @@
 //! Sessions of the engine that keeps a board.
 
+use crate::endings::Ends;
 use crate::runs::{Failing, FailingRow, NOTHING_FAILS, first_failing_wrong};
-use endgame_run::Status;
-use std::test::Fail;
 
 /// A corridor of two points: the engine closes it where it may, passes cost points, and moves are taken back.
 const PLAYED: &[u8] =
@@ -80,13 +79,13 @@ const NO_SECOND_READ: Failing = Failing {
     ..NOTHING_FAILS
 };
 
-const SESSIONS: [FailingRow; 10] = [
+static SESSIONS: [FailingRow; 10] = [
     (
         "gtp~--board~yes",
         PLAYED,
         2_000,
         NOTHING_FAILS,
-        Status::Done,
+        Ends::Done,
         PLAYED_TEXT,
     ),
     (
@@ -94,7 +93,7 @@ const SESSIONS: [FailingRow; 10] = [
         PLACED,
         2_000,
         NOTHING_FAILS,
-        Status::Done,
+        Ends::Done,
         PLACED_TEXT,
     ),
     (
@@ -102,7 +101,7 @@ const SESSIONS: [FailingRow; 10] = [
         ANALYSED,
         2_000,
         NOTHING_FAILS,
-        Status::Done,
+        Ends::Done,
         ANALYSED_TEXT,
     ),
     (
@@ -110,7 +109,7 @@ const SESSIONS: [FailingRow; 10] = [
         UNFIT,
         2_000,
         NOTHING_FAILS,
-        Status::Done,
+        Ends::Done,
         UNFIT_TEXT,
     ),
     (
@@ -118,7 +117,7 @@ const SESSIONS: [FailingRow; 10] = [
         REFUSED,
         2_000,
         NOTHING_FAILS,
-        Status::Done,
+        Ends::Done,
         REFUSED_TEXT,
     ),
     (
@@ -126,7 +125,7 @@ const SESSIONS: [FailingRow; 10] = [
         b"loadsgf d\nloadsgf d\n",
         500,
         NO_FIRST_LOAD,
-        Status::Done,
+        Ends::Done,
         "? cannot load file\n\n= black\n\n",
     ),
     (
@@ -134,7 +133,7 @@ const SESSIONS: [FailingRow; 10] = [
         b"2 name\nversion\n",
         500,
         NO_SECOND_READ,
-        Status::CannotRead,
+        Ends::CannotRead,
         "=2 gdsolve\n\nfault cannot read\n",
     ),
     (
@@ -142,7 +141,7 @@ const SESSIONS: [FailingRow; 10] = [
         b"loadsgf d\ngenmove b\n",
         500,
         NOTHING_FAILS,
-        Status::Done,
+        Ends::Done,
         "= black\n\n? cannot solve: region E2 positions over 1\n\n",
     ),
     (
@@ -150,7 +149,7 @@ const SESSIONS: [FailingRow; 10] = [
         KOS,
         2_000,
         NOTHING_FAILS,
-        Status::Done,
+        Ends::Done,
         KOS_TEXT,
     ),
     (
@@ -158,13 +157,12 @@ const SESSIONS: [FailingRow; 10] = [
         b"genmove w\nloadsgf d\ngenmove b\n",
         500,
         NOTHING_FAILS,
-        Status::Done,
+        Ends::Done,
         "? cannot solve: region A19 points 361\n\n= black\n\n? cannot solve: region E2 positions over 1\n\n",
     ),
 ];
 
 #[test]
-fn keeps_a_board(rt: HostRuntime) -> Result<(), Fail> {
-    assert_eq!(rt; first_failing_wrong(rt.alloc(), &SESSIONS)?, None);
-    Ok(())
+fn keeps_a_board(rt: HostRuntime) {
+    assert_eq!(rt; first_failing_wrong(rt.alloc(), &SESSIONS), None);
 }

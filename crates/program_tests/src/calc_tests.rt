@@ -1,9 +1,9 @@
 //! The calculator of games.
 
-use crate::runs::{Failing, FailingRow, NOTHING_FAILS, first_failing_wrong, outcome_in_pieces};
-use endgame_run::Status;
+use crate::endings::Ends;
+use crate::runs::{Failing, FailingRow, NOTHING_FAILS, are_right, first_failing_wrong};
 use game_calc::CalcFault;
-use std::test::Fail;
+use std::alloc::Global;
 
 const UP_AND_STAR: &str = "value {*,0|0}\nstops 0 0\nmean 0\ntemperature 0\nleft 0:0\nright 0:0\n";
 
@@ -17,22 +17,22 @@ const NOTHING_READ: Failing = Failing {
 };
 
 /// Expressions and what is wrong in them.
-const EXPRESSIONS: [FailingRow; 12] = [
+static EXPRESSIONS: [FailingRow; 12] = [
     (
         "calc~^ + *",
         b"",
         500,
         NOTHING_READ,
-        Status::Done,
+        Ends::Done,
         UP_AND_STAR,
     ),
-    ("calc~+-1 + +-1", b"", 500, NOTHING_READ, Status::Done, ZERO),
+    ("calc~+-1 + +-1", b"", 500, NOTHING_READ, Ends::Done, ZERO),
     (
         "calc~^ ? 0",
         b"",
         500,
         NOTHING_READ,
-        Status::Done,
+        Ends::Done,
         "order greater\n",
     ),
     (
@@ -40,7 +40,7 @@ const EXPRESSIONS: [FailingRow; 12] = [
         b"",
         500,
         NOTHING_READ,
-        Status::Done,
+        Ends::Done,
         "order confused\n",
     ),
     (
@@ -48,7 +48,7 @@ const EXPRESSIONS: [FailingRow; 12] = [
         b"",
         500,
         NOTHING_READ,
-        Status::BadExpression(CalcFault::CutShort),
+        Ends::BadExpression(CalcFault::CutShort),
         "fault expression cut short\n",
     ),
     (
@@ -56,7 +56,7 @@ const EXPRESSIONS: [FailingRow; 12] = [
         b"",
         500,
         NOTHING_READ,
-        Status::BadExpression(CalcFault::Byte(5)),
+        Ends::BadExpression(CalcFault::Byte(5)),
         "fault expression bad byte 5\n",
     ),
     (
@@ -64,7 +64,7 @@ const EXPRESSIONS: [FailingRow; 12] = [
         b"",
         500,
         NOTHING_READ,
-        Status::BadExpression(CalcFault::Byte(0)),
+        Ends::BadExpression(CalcFault::Byte(0)),
         "fault expression bad byte 0\n",
     ),
     (
@@ -72,7 +72,7 @@ const EXPRESSIONS: [FailingRow; 12] = [
         b"",
         500,
         NOTHING_READ,
-        Status::BadExpression(CalcFault::Number(4)),
+        Ends::BadExpression(CalcFault::Number(4)),
         "fault expression bad number 4\n",
     ),
     (
@@ -80,7 +80,7 @@ const EXPRESSIONS: [FailingRow; 12] = [
         b"",
         500,
         NOTHING_READ,
-        Status::CalcLimit,
+        Ends::CalcLimit,
         "fault calc limit\n",
     ),
     (
@@ -88,7 +88,7 @@ const EXPRESSIONS: [FailingRow; 12] = [
         b"",
         500,
         NOTHING_READ,
-        Status::BadExpression(CalcFault::CutShort),
+        Ends::BadExpression(CalcFault::CutShort),
         "fault expression cut short\n",
     ),
     (
@@ -96,7 +96,7 @@ const EXPRESSIONS: [FailingRow; 12] = [
         b"",
         500,
         NOTHING_READ,
-        Status::Usage,
+        Ends::Usage,
         "fault usage\n",
     ),
     (
@@ -104,25 +104,24 @@ const EXPRESSIONS: [FailingRow; 12] = [
         b"",
         500,
         NOTHING_READ,
-        Status::Usage,
+        Ends::Usage,
         "fault usage\n",
     ),
 ];
 
 #[test]
-fn answers_expressions(rt: HostRuntime) -> Result<(), Fail> {
-    assert_eq!(rt; first_failing_wrong(rt.alloc(), &EXPRESSIONS)?, None);
-    Ok(())
+fn answers_expressions(rt: HostRuntime) {
+    assert_eq!(rt; first_failing_wrong(rt.alloc(), &EXPRESSIONS), None);
 }
 
 /// Answers that the sink has no room for.
-const CUT_ANSWERS: [FailingRow; 3] = [
+static CUT_ANSWERS: [FailingRow; 3] = [
     (
         "calc~^ ? 0",
         b"",
         9,
         NOTHING_FAILS,
-        Status::CannotWrite,
+        Ends::CannotWrite,
         "order gre",
     ),
     (
@@ -130,28 +129,34 @@ const CUT_ANSWERS: [FailingRow; 3] = [
         b"",
         5,
         NOTHING_FAILS,
-        Status::CannotWrite,
+        Ends::CannotWrite,
         "fault",
     ),
-    ("calc~0", b"", 0, NOTHING_FAILS, Status::CannotWrite, ""),
+    ("calc~0", b"", 0, NOTHING_FAILS, Ends::CannotWrite, ""),
 ];
 
 #[test]
-fn a_failed_write_leaves_a_front_part(rt: HostRuntime) -> Result<(), Fail> {
-    assert_eq!(rt; first_failing_wrong(rt.alloc(), &CUT_ANSWERS)?, None);
-    Ok(())
+fn a_failed_write_leaves_a_front_part(rt: HostRuntime) {
+    assert_eq!(rt; first_failing_wrong(rt.alloc(), &CUT_ANSWERS), None);
+}
+
+/// Whether an expression is told to be nested too deep.
+fn is_too_deep(alloc: Global, expression: &str) -> bool {
+    let words = ["calc", expression];
+    let ends = Ends::BadExpression(CalcFault::Deep);
+    let text = b"fault expression too deep\n";
+    are_right(alloc, &words, b"", 7, 500, NOTHING_FAILS, ends, text)
+}
+
+/// Whether so many open parentheses are.
+fn are_too_deep(alloc: Global, count: usize) -> bool {
+    match "( ".repeat(alloc, count) {
+        Ok(deep) => is_too_deep(alloc, &deep),
+        Err(_error) => false,
+    }
 }
 
 #[test]
-fn nothing_is_nested_too_deep(rt: HostRuntime) -> Result<(), Fail> {
-    let alloc = rt.alloc();
-    let deep = "( ".repeat(alloc, 1001)?;
-    let words = ["calc", deep.as_str()];
-    let (got, written) = outcome_in_pieces(alloc, &words, b"", 7, 500, NOTHING_FAILS)?;
-    assert_eq!(rt;
-        written.as_slice(),
-        b"fault expression too deep\n".as_slice()
-    );
-    assert_eq!(rt; got, Status::BadExpression(CalcFault::Deep));
-    Ok(())
+fn nothing_is_nested_too_deep(rt: HostRuntime) {
+    assert!(rt; are_too_deep(rt.alloc(), 1001));
 }

@@ -2,7 +2,8 @@
 
 ghost use Rattle.std.specs.Prelude.{◌≡◌, ◌<◌};
 
-use crate::solved_tests::{ENDLESS, Game, LIMITS, setup};
+use crate::solved_tests::stone_at;
+use crate::worked_games::{ENDLESS, Game, LIMITS, setup};
 use cycle_solver::{CycleError, CycleGame, Thresholds};
 use endgame_solver::Limits;
 use go_grid::{Colour, Point};
@@ -20,7 +21,7 @@ const WON: Game = Game {
 };
 
 /// The game, with at most so many captures that return in a region, or want of memory where there is no position or a tax.
-pub(crate) fn begin<L: Ledger>(
+fn begin<L: Ledger>(
     alloc: Global,
     blank: Blank,
     game: Game,
@@ -31,37 +32,62 @@ pub(crate) fn begin<L: Ledger>(
     requires parts { blank.parts ≡ L.parts }
     requires some { 0 < blank.parts }
 {
-    let Some(setup) = setup(alloc, game)? else {
-        return Err(CycleError::Memory(AllocError));
-    };
     if limits.positions > 1_000_000 || limits.tax {
         return Err(CycleError::Memory(AllocError));
     }
-    CycleGame::begin(alloc, &setup, &limits, most, &mut Steps::<L>::new(blank))
+    match setup(alloc, game) {
+        Some(setup) => CycleGame::begin(alloc, &setup, &limits, most, &mut Steps::<L>::new(blank)),
+        None => Err(CycleError::Memory(AllocError)),
+    }
+}
+
+/// The game with at most 32 captures that return in a region.
+pub(crate) fn begun(alloc: Global, game: Game, limits: Limits) -> Result<CycleGame, CycleError> {
+    begin::<Brand>(alloc, Blank::new(1), game, limits, 32)
 }
 
 /// A game with its komi in half-points, its winner, the winner's captures, and the point of the first winning move.
-const GAMES: [(Game, i64, Option<Colour>, Option<usize>, Option<u16>); 4] = [
+type Won = (Game, i64, Option<Colour>, Option<usize>, Option<u16>);
+
+static GAMES: [Won; 4] = [
     (ENDLESS, 0, None, None, None),
     (ENDLESS, 3, Some(Colour::White), Some(0), None),
     (ENDLESS, -1, Some(Colour::Black), Some(0), Some(14)),
     (WON, -6, Some(Colour::Black), Some(0), Some(5)),
 ];
 
-#[test]
-fn games_with_cycles(rt: HostRuntime) -> Result<(), CycleError> {
-    for (at, (game, komi, winner, captures, stone)) in GAMES.into_iter().enumerate() {
-        let game = Game { komi, ..game };
-        let mut solved = begin::<Brand>(rt.alloc(), Blank::new(1), game, LIMITS, 32)?;
-        let chosen = match stone {
-            Some(number) => Some(Move::Stone(Point(number))),
-            None => None,
-        };
-        assert!(rt; solved.winner() == winner, "winner at {at}");
-        assert!(rt; solved.captures() == captures, "captures at {at}");
-        assert!(rt; solved.winning_move() == chosen, "move at {at}");
+/// Whether the winner, the winner's captures and the first winning move are these.
+fn answers(solved: &mut CycleGame, row: &Won) -> bool {
+    solved.winner() == row.2
+        && solved.captures() == row.3
+        && solved.winning_move() == stone_at(row.4)
+}
+
+/// Whether a game has these answers.
+fn is_won(alloc: Global, row: &Won) -> bool {
+    let game = Game {
+        komi: row.1,
+        ..row.0
+    };
+    match begun(alloc, game, LIMITS) {
+        Ok(mut solved) => answers(&mut solved, row),
+        Err(_fault) => false,
     }
-    Ok(())
+}
+
+/// The first of the games with other answers.
+fn wrong_game(alloc: Global) -> Option<usize> {
+    for (at, row) in GAMES.iter().enumerate() {
+        if !is_won(alloc, row) {
+            return Some(at);
+        }
+    }
+    None
+}
+
+#[test]
+fn games_with_cycles(rt: HostRuntime) {
+    assert_eq!(rt; wrong_game(rt.alloc()), None);
 }
 
 /// Whether the thresholds are these, in half-points.
@@ -77,31 +103,50 @@ fn are_after(both: Option<Thresholds>, black: i64, white: i64) -> bool {
     }
 }
 
-#[test]
-fn moves_with_cycles(rt: HostRuntime) -> Result<(), CycleError> {
-    let mut solved = begin::<Brand>(rt.alloc(), Blank::new(1), ENDLESS, LIMITS, 32)?;
-    assert!(rt; are(solved.thresholds(0, Colour::Black), -1, 2));
-    assert!(rt; are(solved.thresholds(0, Colour::White), -3, 0));
-    assert!(rt; are_after(solved.stone_thresholds(0, Point(14)), -1, -1));
-    assert!(rt; are_after(solved.stone_thresholds(0, Point(15)), -5, 2));
-    assert!(rt; solved.stone_thresholds(0, Point(0)).is_none());
-    let white = Some(Some(Colour::White));
-    assert!(rt; solved.winner_after(Move::Stone(Point(14))) == white);
-    assert!(rt; solved.winner_after(Move::Stone(Point(15))) == Some(None));
-    assert!(rt; solved.winner_after(Move::Spend) == white);
-    assert!(rt; solved.winner_after(Move::Half).is_none());
-    Ok(())
+/// Whether the thresholds of the game with stones that take each other for ever are right.
+fn has_thresholds(solved: &mut CycleGame) -> bool {
+    are(solved.thresholds(0, Colour::Black), -1, 2)
+        && are(solved.thresholds(0, Colour::White), -3, 0)
 }
 
-/// Why the game isn't solved within the limits, if it isn't.
-fn refusal<L: Ledger>(alloc: Global, blank: Blank, game: Game, limits: Limits) -> Option<CycleError>
-    requires name { blank.name ≡ L.name }
-    requires parts { blank.parts ≡ L.parts }
-    requires some { 0 < blank.parts }
-{
-    match begin::<L>(alloc, blank, game, limits, 32) {
-        Ok(_solved) => None,
-        Err(fault) => Some(fault),
+/// Whether those behind its stones are.
+fn has_stone_thresholds(solved: &mut CycleGame) -> bool {
+    are_after(solved.stone_thresholds(0, Point(14)), -1, -1)
+        && are_after(solved.stone_thresholds(0, Point(15)), -5, 2)
+        && solved.stone_thresholds(0, Point(0)).is_none()
+}
+
+/// Whether its winners behind moves are.
+fn has_winners(solved: &mut CycleGame) -> bool {
+    let white = Some(Some(Colour::White));
+    solved.winner_after(Move::Stone(Point(14))) == white
+        && solved.winner_after(Move::Stone(Point(15))) == Some(None)
+        && solved.winner_after(Move::Spend) == white
+        && solved.winner_after(Move::Half).is_none()
+}
+
+/// Whether all of these are.
+fn are_moves_right(alloc: Global) -> bool {
+    match begun(alloc, ENDLESS, LIMITS) {
+        Ok(mut solved) => {
+            has_thresholds(&mut solved)
+                && has_stone_thresholds(&mut solved)
+                && has_winners(&mut solved)
+        }
+        Err(_fault) => false,
+    }
+}
+
+#[test]
+fn moves_with_cycles(rt: HostRuntime) {
+    assert!(rt; are_moves_right(rt.alloc()));
+}
+
+/// Whether a game isn't solved within the limits, for the positions of the region of this point.
+fn has_too_many(alloc: Global, game: Game, limits: Limits, point: u16) -> bool {
+    match begun(alloc, game, limits) {
+        Ok(_solved) => false,
+        Err(fault) => fault == CycleError::Positions(Point(point)),
     }
 }
 
@@ -111,6 +156,5 @@ fn too_many_positions(rt: HostRuntime) {
         positions: 7,
         ..LIMITS
     };
-    let refusal = refusal::<Brand>(rt.alloc(), Blank::new(1), ENDLESS, limits);
-    assert!(rt; refusal == Some(CycleError::Positions(Point(14))));
+    assert!(rt; has_too_many(rt.alloc(), ENDLESS, limits, 14));
 }

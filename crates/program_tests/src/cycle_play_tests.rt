@@ -1,18 +1,17 @@
 //! Games and sessions of the engine where kos can arise.
 
-use crate::play_tests::games_won;
+use crate::endings::Ends;
+use crate::every_line::games_won;
 use crate::runs::{FailingRow, NOTHING_FAILS, first_failing_wrong};
-use endgame_run::Status;
-use std::test::Fail;
 
 /// Words, lines, and what is written.
-const SESSIONS: [FailingRow; 9] = [
+static SESSIONS: [FailingRow; 9] = [
     (
         "play~k",
         b"spend\n",
         500,
         NOTHING_FAILS,
-        Status::Cycle,
+        Ends::Cycle,
         "fault cycle ea 0 black:fa white:ea\n",
     ),
     (
@@ -20,7 +19,7 @@ const SESSIONS: [FailingRow; 9] = [
         b"spend\nspend\nspend\nea\nspend\n",
         500,
         NOTHING_FAILS,
-        Status::Done,
+        Ends::Done,
         "engine spend\nplayed spend\nengine spend\nplayed spend\nengine spend\nrefused empty purse\nrefused occupied\n\
             refused empty purse\ninput ended\n",
     ),
@@ -29,7 +28,7 @@ const SESSIONS: [FailingRow; 9] = [
         b"fa\nfa\nspend\nfa\nspend\nfa\nfa\nspend\nfa\nspend\n",
         500,
         NOTHING_FAILS,
-        Status::Done,
+        Ends::Done,
         "played fa\nengine ea\nplayed fa\nengine ea\nplayed spend\nengine fa\nrefused occupied\nplayed spend\nengine spend\n\
             refused occupied\nrefused occupied\nplayed spend\nengine spend\nrefused occupied\nplayed spend\nengine spend\n\
             winner white\n",
@@ -39,7 +38,7 @@ const SESSIONS: [FailingRow; 9] = [
         b"eb\nfb\nspend\nspend\neb\nfb\nspend\n",
         500,
         NOTHING_FAILS,
-        Status::Done,
+        Ends::Done,
         "engine fb\nplayed eb\nengine fb\nrefused occupied\nplayed spend\nengine eb\nplayed spend\nengine spend\n\
             refused occupied\nrefused occupied\nplayed spend\nengine spend\nwinner black\n",
     ),
@@ -48,7 +47,7 @@ const SESSIONS: [FailingRow; 9] = [
         b"eb\n",
         500,
         NOTHING_FAILS,
-        Status::RegionLimit,
+        Ends::RegionLimit,
         "fault region eb positions over 7\n",
     ),
     (
@@ -56,7 +55,7 @@ const SESSIONS: [FailingRow; 9] = [
         b"loadsgf e\ngenmove b\nquit\n",
         500,
         NOTHING_FAILS,
-        Status::Done,
+        Ends::Done,
         "= \n\n? cannot solve\n\n= \n\n",
     ),
     (
@@ -64,7 +63,7 @@ const SESSIONS: [FailingRow; 9] = [
         b"loadsgf e\ngenmove b\ngenmove w\ngenmove b\ngenmove w\nquit\n",
         500,
         NOTHING_FAILS,
-        Status::Done,
+        Ends::Done,
         "= \n\n= F2\n\n= E2\n\n= F2\n\n= E2\n\n= \n\n",
     ),
     (
@@ -73,7 +72,7 @@ const SESSIONS: [FailingRow; 9] = [
             genmove b\ngenmove w\ngenmove b\nquit\n",
         500,
         NOTHING_FAILS,
-        Status::Done,
+        Ends::Done,
         "= \n\n= pass\n\n= \n\n= pass\n\n= \n\n= pass\n\n? illegal move\n\n? not in turn\n\n= F3\n\n= pass\n\n\
             = resign\n\n? not in turn\n\n= \n\n",
     ),
@@ -82,33 +81,35 @@ const SESSIONS: [FailingRow; 9] = [
         b"loadsgf e\ngenmove b\nquit\n",
         500,
         NOTHING_FAILS,
-        Status::Done,
+        Ends::Done,
         "= \n\n? cannot solve\n\n= \n\n",
     ),
 ];
 
 #[test]
-fn plays_where_kos_arise(rt: HostRuntime) -> Result<(), Fail> {
-    assert_eq!(rt; first_failing_wrong(rt.alloc(), &SESSIONS)?, None);
-    Ok(())
+fn plays_where_kos_arise(rt: HostRuntime) {
+    assert_eq!(rt; first_failing_wrong(rt.alloc(), &SESSIONS), None);
 }
 
 /// What the opponent may try on the board with one ko.
-const KO_TRIES: [&[u8]; 4] = [b"ea\n", b"fa\n", b"spend\n", b"half\n"];
+static KO_TRIES: [&[u8]; 4] = [b"ea\n", b"fa\n", b"spend\n", b"half\n"];
 
 /// What the opponent may try on the board with two.
-const KOS_TRIES: [&[u8]; 6] = [b"ea\n", b"fa\n", b"ec\n", b"fc\n", b"spend\n", b"half\n"];
+static KOS_TRIES: [&[u8]; 6] = [b"ea\n", b"fa\n", b"ec\n", b"fc\n", b"spend\n", b"half\n"];
 
 #[test]
-fn wins_against_every_line_where_kos_arise(rt: HostRuntime) -> Result<(), Fail> {
+fn wins_against_every_line_where_kos_arise(rt: HostRuntime) {
     let alloc = rt.alloc();
-    let one = games_won(alloc, "play~k~--cycles~yes", &KO_TRIES, b"winner black")?;
+    let one = games_won(alloc, "play~k~--cycles~yes", &KO_TRIES, b"winner black");
     assert_eq!(rt; one, Some(3));
     let words = "play~kos~--komi~-3~--cycles~yes";
-    let black = games_won(alloc, words, &KOS_TRIES, b"winner black")?;
-    assert_eq!(rt; black, Some(12));
+    assert_eq!(rt;
+        games_won(alloc, words, &KOS_TRIES, b"winner black"),
+        Some(12)
+    );
     let words = "play~kos~--komi~2~--as~white~--cycles~yes";
-    let white = games_won(alloc, words, &KOS_TRIES, b"winner white")?;
-    assert_eq!(rt; white, Some(12));
-    Ok(())
+    assert_eq!(rt;
+        games_won(alloc, words, &KOS_TRIES, b"winner white"),
+        Some(12)
+    );
 }

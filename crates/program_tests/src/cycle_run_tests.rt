@@ -1,9 +1,8 @@
 //! Runs on files in whose regions kos can arise: with the option that admits cycles, and without it.
 
+use crate::endings::Ends;
 use crate::run_tests::TIE_TEXT;
 use crate::runs::{Row, first_wrong};
-use endgame_run::Status;
-use std::test::Fail;
 
 const NOBODY: &str = "side black\npurse black 2\npurse white 2\nhalf none\nregions 1\n\
     region eb points 2 positions 8\npositions 8\nwinner none\ncaptures none\nmove none\n";
@@ -17,47 +16,46 @@ const BLACK_WINS: &str = "side black\npurse black 2\npurse white 2\nhalf black\n
 const WHITE_TAKES: &str = "side white\npurse black 2\npurse white 2\nhalf white\nregions 1\n\
     region eb points 2 positions 8\npositions 8\nwinner white\ncaptures 0\nmove fb\n";
 
-const SOLUTIONS: [Row; 9] = [
-    ("solve~e~--cycles~yes", b"", Status::Done, NOBODY),
+static SOLUTIONS: [Row; 9] = [
+    ("solve~e~--cycles~yes", b"", Ends::Done, NOBODY),
     (
         "solve~e~--komi~1.5~--cycles~yes",
         b"",
-        Status::Done,
+        Ends::Done,
         WHITE_WINS,
     ),
     (
         "solve~e~--cycles~yes~--komi~-0.5",
         b"",
-        Status::Done,
+        Ends::Done,
         BLACK_WINS,
     ),
     (
         "solve~e~--cycles~yes~--turn~white~--komi~0.5",
         b"",
-        Status::Done,
+        Ends::Done,
         WHITE_TAKES,
     ),
     (
         "solve~e~--positions~7~--cycles~yes",
         b"",
-        Status::RegionLimit,
+        Ends::RegionLimit,
         "fault region eb positions over 7\n",
     ),
     (
         "solve~e~--parts~1~--cycles~yes",
         b"",
-        Status::FormLimit,
+        Ends::FormLimit,
         "fault form eb\n",
     ),
-    ("solve~a~--cycles~no", b"", Status::Done, TIE_TEXT),
-    ("safe~e~--cycles~yes", b"", Status::Usage, "fault usage\n"),
-    ("line~e~--cycles~yes", b"", Status::Usage, "fault usage\n"),
+    ("solve~a~--cycles~no", b"", Ends::Done, TIE_TEXT),
+    ("safe~e~--cycles~yes", b"", Ends::Usage, "fault usage\n"),
+    ("line~e~--cycles~yes", b"", Ends::Usage, "fault usage\n"),
 ];
 
 #[test]
-fn tells_who_wins_where_kos_arise(rt: HostRuntime) -> Result<(), Fail> {
-    assert_eq!(rt; first_wrong(rt.alloc(), &SOLUTIONS)?, None);
-    Ok(())
+fn tells_who_wins_where_kos_arise(rt: HostRuntime) {
+    assert_eq!(rt; first_wrong(rt.alloc(), &SOLUTIONS), None);
 }
 
 const BOTH_VALUES: &str = "regions 1\nregion eb points 2 positions 8\nlow {*|-1}\nstops 0 -1\n\
@@ -73,26 +71,25 @@ const BLACKS_MOVES: &str = "side black\nkomi 0\nwinner none\nstone eb loses -0.5
 const WHITES_MOVES: &str = "side white\nkomi 2\nwinner white\nstone eb none -1.5 2\n\
     stone fb wins 0 0\nspend none\n";
 
-const ANALYSES: [Row; 5] = [
-    ("values~e~--cycles~yes", b"", Status::Done, BOTH_VALUES),
-    ("margin~e~--cycles~yes", b"", Status::Done, BOTH_THRESHOLDS),
-    ("moves~e~--cycles~yes", b"", Status::Done, BLACKS_MOVES),
+static ANALYSES: [Row; 5] = [
+    ("values~e~--cycles~yes", b"", Ends::Done, BOTH_VALUES),
+    ("margin~e~--cycles~yes", b"", Ends::Done, BOTH_THRESHOLDS),
+    ("moves~e~--cycles~yes", b"", Ends::Done, BLACKS_MOVES),
     (
         "moves~e~--turn~white~--komi~2~--cycles~yes",
         b"",
-        Status::Done,
+        Ends::Done,
         WHITES_MOVES,
     ),
     (
         "moves~e",
         b"",
-        Status::Cycle,
+        Ends::Cycle,
         "fault cycle eb 1 black:fb white:eb black:fb\n",
     ),
 ];
 
 #[test]
-fn tells_what_moves_are_worth_where_kos_arise(rt: HostRuntime) -> Result<(), Fail> {
-    assert_eq!(rt; first_wrong(rt.alloc(), &ANALYSES)?, None);
-    Ok(())
+fn tells_what_moves_are_worth_where_kos_arise(rt: HostRuntime) {
+    assert_eq!(rt; first_wrong(rt.alloc(), &ANALYSES), None);
 }

@@ -1,15 +1,13 @@
 //! Devices that fail, and files that are cut.
 
+use crate::endings::Ends;
+use crate::files::{COPY, ONE_POINT, shelf};
 use crate::run_tests::{ONE_POINT_TEXT, POINT_SAFE, SEVEN_TEXT};
-use crate::runs::{
-    COPY, Failing, NEVER, NOTHING_FAILS, ONE_POINT, is_right, is_right_in_pieces,
-    outcome_in_pieces, shelf, status_of, words_between,
-};
-use desk_io::{Failed, MemorySource, Sink};
-use endgame_run::{FileFault, Status};
+use crate::runs::{Failing, NEVER, NOTHING_FAILS, are_right, is_right, is_right_in_pieces};
+use crate::write_counts::{Counts, counts};
+use desk_io::MemoryShelf;
 use sgf_tree::TreeFault;
-use std::alloc::{AllocError, Global};
-use std::test::Fail;
+use std::alloc::Global;
 
 /// One contested point, worth nothing but the move.
 const POINT_VALUES: &str =
@@ -39,76 +37,100 @@ const NO_WRITE_FIRST: Failing = Failing {
 };
 
 /// The commands that write one text, and that text for one contested point.
-const TEXTS: [(&str, &str); 3] = [
+static TEXTS: [(&str, &str); 3] = [
     ("solve", ONE_POINT_TEXT),
     ("safe", POINT_SAFE),
     ("values", POINT_VALUES),
 ];
 
-/// The name of a file, the calls that fail, the status, and what is written where it isn't the command's text.
-const FAILING_CALLS: [(&str, Failing, Status, Option<&str>); 6] = [
-    ("c", NO_LOAD_FIRST, Status::CannotRead, Some(NO_READ)),
-    ("c", NO_LOAD_AGAIN, Status::Done, None),
-    ("-", NO_LOAD_FIRST, Status::Done, None),
-    ("c", NO_READ_FIRST, Status::Done, None),
-    ("c", NO_WRITE_FIRST, Status::CannotWrite, Some("")),
-    ("nowhere", NOTHING_FAILS, Status::CannotRead, Some(NO_READ)),
+/// The name of a file, the calls that fail, how the run ends, and what is written where it isn't the command's text.
+static FAILING_CALLS: [(&str, Failing, Ends, Option<&str>); 6] = [
+    ("c", NO_LOAD_FIRST, Ends::CannotRead, Some(NO_READ)),
+    ("c", NO_LOAD_AGAIN, Ends::Done, None),
+    ("-", NO_LOAD_FIRST, Ends::Done, None),
+    ("c", NO_READ_FIRST, Ends::Done, None),
+    ("c", NO_WRITE_FIRST, Ends::CannotWrite, Some("")),
+    ("nowhere", NOTHING_FAILS, Ends::CannotRead, Some(NO_READ)),
 ];
 
-/// Whether the two words end so.
+/// Whether a command on a file ends and writes so.
 fn ends_so(
     alloc: Global,
-    words: [&str; 2],
+    words: &[&str],
     failing: Failing,
-    status: Status,
-    text: &str,
-) -> Result<bool, AllocError> {
-    let (got, written) = outcome_in_pieces(alloc, &words, ONE_POINT, 7, 500, failing)?;
-    Ok(got == status && written.as_slice() == text.as_bytes())
+    ends: Ends,
+    told: Option<&str>,
+    whole: &str,
+) -> bool {
+    let text = match told {
+        Some(text) => text.as_bytes(),
+        None => whole.as_bytes(),
+    };
+    are_right(alloc, words, ONE_POINT, 7, 500, failing, ends, text)
+}
+
+/// The first of the calls that a command doesn't answer so.
+fn wrong_call(alloc: Global, command: &str, whole: &str) -> Option<usize> {
+    for (at, row) in FAILING_CALLS.iter().enumerate() {
+        if !ends_so(alloc, &[command, row.0], row.1, row.2, row.3, whole) {
+            return Some(at);
+        }
+    }
+    None
+}
+
+/// The first of the commands that doesn't answer some call so, and the call.
+fn wrong_command(alloc: Global) -> Option<(usize, usize)> {
+    for (at, row) in TEXTS.iter().enumerate() {
+        if let Some(call) = wrong_call(alloc, row.0, row.1) {
+            return Some((at, call));
+        }
+    }
+    None
 }
 
 #[test]
-fn calls_that_fail_are_told(rt: HostRuntime) -> Result<(), Fail> {
-    for (command, whole) in TEXTS {
-        for (name, failing, status, told) in FAILING_CALLS {
-            let text = told.unwrap_or(whole);
-            assert!(rt;
-                ends_so(rt.alloc(), [command, name], failing, status, text)?,
-                "{command} {name}"
-            );
+fn calls_that_fail_are_told(rt: HostRuntime) {
+    assert_eq!(rt; wrong_command(rt.alloc()), None);
+}
+
+/// Whether a command over the source fails with this read.
+fn fails_with_read(alloc: Global, words: &str, read: u64) -> bool {
+    let failing = Failing {
+        read,
+        ..NOTHING_FAILS
+    };
+    let (ends, text) = (Ends::CannotRead, NO_READ.as_bytes());
+    is_right(alloc, words, ONE_POINT, 500, failing, ends, text)
+}
+
+/// The first read with which a command over the source doesn't fail. Seven reads give the file, and the eighth its end.
+fn wrong_read(alloc: Global, words: &str) -> Option<u64> {
+    for read in 0..8 {
+        if !fails_with_read(alloc, words, read) {
+            return Some(read);
         }
     }
-    Ok(())
+    None
 }
 
 /// Whether a command over the source fails with each of its reads, and ends with the text where none fails.
-fn fails_with_each_read(alloc: Global, words: &str, text: &str) -> Result<bool, AllocError> {
-    let (read_fails, no_read) = (Status::CannotRead, NO_READ.as_bytes());
-    // Seven reads give the file, and the eighth its end.
-    for read in 0..8 {
-        let failing = Failing {
-            read,
-            ..NOTHING_FAILS
-        };
-        if !is_right(alloc, words, ONE_POINT, 500, failing, read_fails, no_read)? {
-            return Ok(false);
-        }
-    }
-    let (done, text) = (Status::Done, text.as_bytes());
-    is_right_in_pieces(alloc, words, ONE_POINT, 1, 500, NOTHING_FAILS, done, text)
+fn fails_with_each_read(alloc: Global, words: &str, text: &str) -> bool {
+    let (ends, text) = (Ends::Done, text.as_bytes());
+    wrong_read(alloc, words) == None
+        && is_right_in_pieces(alloc, words, ONE_POINT, 1, 500, NOTHING_FAILS, ends, text)
 }
 
 #[test]
-fn reads_that_fail_are_told(rt: HostRuntime) -> Result<(), Fail> {
+fn reads_that_fail_are_told(rt: HostRuntime) {
     let alloc = rt.alloc();
-    assert!(rt; fails_with_each_read(alloc, "solve~-", ONE_POINT_TEXT)?);
-    assert!(rt; fails_with_each_read(alloc, "safe~-", POINT_SAFE)?);
-    assert!(rt; fails_with_each_read(alloc, "values~-", POINT_VALUES)?);
-    Ok(())
+    assert!(rt; fails_with_each_read(alloc, "solve~-", ONE_POINT_TEXT));
+    assert!(rt; fails_with_each_read(alloc, "safe~-", POINT_SAFE));
+    assert!(rt; fails_with_each_read(alloc, "values~-", POINT_VALUES));
 }
 
 /// Runs whose text the sink has no room for.
-const CUT_RUNS: [(&str, &[u8], &str); 6] = [
+static CUT_RUNS: [(&str, &[u8], &str); 6] = [
     ("trial~7", b"", SEVEN_TEXT),
     ("solve~c", b"", ONE_POINT_TEXT),
     ("safe~c", b"", POINT_SAFE),
@@ -121,92 +143,99 @@ const CUT_RUNS: [(&str, &[u8], &str); 6] = [
     ),
 ];
 
-/// Whether the sink has a front part of the text at each room below its length.
-fn has_front_parts(
-    alloc: Global,
-    words: &str,
-    file: &[u8],
-    text: &[u8],
-) -> Result<bool, AllocError> {
+/// Whether the sink has the front part of the text that it has room for.
+fn has_front(alloc: Global, words: &str, file: &[u8], front: &[u8]) -> bool {
+    let ends = Ends::CannotWrite;
+    is_right(alloc, words, file, front.len(), NOTHING_FAILS, ends, front)
+}
+
+/// The first room below the length of the text for which that isn't so.
+fn wrong_room(alloc: Global, words: &str, file: &[u8], text: &[u8]) -> Option<usize> {
     for room in 0..text.len() {
-        let (status, front) = (Status::CannotWrite, &text[..room]);
-        if !is_right(alloc, words, file, room, NOTHING_FAILS, status, front)? {
-            return Ok(false);
+        if !has_front(alloc, words, file, &text[..room]) {
+            return Some(room);
         }
     }
-    Ok(true)
+    None
+}
+
+/// The first of the runs with such a room, and the room.
+fn wrong_front(alloc: Global) -> Option<(usize, usize)> {
+    for (at, row) in CUT_RUNS.iter().enumerate() {
+        if let Some(room) = wrong_room(alloc, row.0, row.1, row.2.as_bytes()) {
+            return Some((at, room));
+        }
+    }
+    None
 }
 
 #[test]
-fn a_full_sink_has_a_front_part(rt: HostRuntime) -> Result<(), Fail> {
-    for (words, file, text) in CUT_RUNS {
-        assert!(rt;
-            has_front_parts(rt.alloc(), words, file, text.as_bytes())?,
-            "{words}"
-        );
-    }
-    Ok(())
+fn a_full_sink_has_a_front_part(rt: HostRuntime) {
+    assert_eq!(rt; wrong_front(rt.alloc()), None);
 }
 
-/// The read and the write of the same game that fail, the status and what is written.
-const CUT_GAMES: [(u64, u64, Status, &str); 8] = [
-    (NEVER, 0, Status::CannotWrite, ""),
-    (NEVER, 1, Status::CannotWrite, "engine ea\n"),
-    (
-        NEVER,
-        2,
-        Status::CannotWrite,
-        "engine ea\nrefused occupied\n",
-    ),
+/// The read and the write of the same game that fail, how the run ends and what is written.
+type CutGame = (u64, u64, Ends, &'static str);
+
+static CUT_GAMES: [CutGame; 8] = [
+    (NEVER, 0, Ends::CannotWrite, ""),
+    (NEVER, 1, Ends::CannotWrite, "engine ea\n"),
+    (NEVER, 2, Ends::CannotWrite, "engine ea\nrefused occupied\n"),
     (
         NEVER,
         3,
-        Status::CannotWrite,
+        Ends::CannotWrite,
         "engine ea\nrefused occupied\nplayed spend\n",
     ),
     (
         NEVER,
         4,
-        Status::CannotWrite,
+        Ends::CannotWrite,
         "engine ea\nrefused occupied\nplayed spend\nengine spend\n",
     ),
-    (
-        0,
-        NEVER,
-        Status::CannotRead,
-        "engine ea\nfault cannot read\n",
-    ),
+    (0, NEVER, Ends::CannotRead, "engine ea\nfault cannot read\n"),
     (
         1,
         NEVER,
-        Status::CannotRead,
+        Ends::CannotRead,
         "engine ea\nrefused occupied\nfault cannot read\n",
     ),
     (
         2,
         NEVER,
-        Status::CannotRead,
+        Ends::CannotRead,
         "engine ea\nrefused occupied\nplayed spend\nengine spend\nfault cannot read\n",
     ),
 ];
 
-#[test]
-fn a_session_is_written_turn_by_turn(rt: HostRuntime) -> Result<(), Fail> {
-    let alloc = rt.alloc();
-    for (read, write, status, text) in CUT_GAMES {
-        let failing = Failing {
-            read,
-            write,
-            ..NOTHING_FAILS
-        };
-        let (file, text) = (b"ea\nspend\n", text.as_bytes());
-        assert!(rt; is_right(alloc, "play~c", file, 500, failing, status, text)?);
+/// Whether the game goes so.
+fn is_cut_so(alloc: Global, row: &CutGame) -> bool {
+    let failing = Failing {
+        read: row.0,
+        write: row.1,
+        ..NOTHING_FAILS
+    };
+    let text = row.3.as_bytes();
+    is_right(alloc, "play~c", b"ea\nspend\n", 500, failing, row.2, text)
+}
+
+/// The first of the games that doesn't go so.
+fn wrong_game(alloc: Global) -> Option<usize> {
+    for (at, row) in CUT_GAMES.iter().enumerate() {
+        if !is_cut_so(alloc, row) {
+            return Some(at);
+        }
     }
-    Ok(())
+    None
+}
+
+#[test]
+fn a_session_is_written_turn_by_turn(rt: HostRuntime) {
+    assert_eq!(rt; wrong_game(rt.alloc()), None);
 }
 
 /// Words outside the grammar.
-const FAULTY_WORDS: [&str; 12] = [
+static FAULTY_WORDS: [&str; 12] = [
     "",
     "solve",
     "solve~c~--komi",
@@ -222,98 +251,65 @@ const FAULTY_WORDS: [&str; 12] = [
 ];
 
 /// Whether the words are refused, and nothing is written where the first write fails.
-fn are_refused(alloc: Global, words: &str) -> Result<bool, AllocError> {
-    let (cannot_write, usage) = (Status::CannotWrite, Status::Usage);
-    Ok(
-        is_right(alloc, words, b"", 500, NO_WRITE_FIRST, cannot_write, b"")?
-            && is_right(
-                alloc,
-                words,
-                b"",
-                500,
-                NOTHING_FAILS,
-                usage,
-                b"fault usage\n",
-            )?,
-    )
+fn are_refused(alloc: Global, words: &str) -> bool {
+    let usage = b"fault usage\n";
+    is_right(
+        alloc,
+        words,
+        b"",
+        500,
+        NO_WRITE_FIRST,
+        Ends::CannotWrite,
+        b"",
+    ) && is_right(alloc, words, b"", 500, NOTHING_FAILS, Ends::Usage, usage)
+}
+
+/// The first of the words that aren't refused so.
+fn wrong_words(alloc: Global) -> Option<usize> {
+    for (at, words) in FAULTY_WORDS.iter().enumerate() {
+        if !are_refused(alloc, words) {
+            return Some(at);
+        }
+    }
+    None
 }
 
 #[test]
-fn faulty_words_on_a_failing_sink_write_nothing(rt: HostRuntime) -> Result<(), Fail> {
-    for words in FAULTY_WORDS {
-        assert!(rt; are_refused(rt.alloc(), words)?, "{words}");
-    }
-    Ok(())
+fn faulty_words_on_a_failing_sink_write_nothing(rt: HostRuntime) {
+    assert_eq!(rt; wrong_words(rt.alloc()), None);
+}
+
+/// Whether a file has this fault in its tree.
+fn has_tree_fault(alloc: Global, file: &[u8], fault: TreeFault, text: &[u8]) -> bool {
+    let ends = Ends::BadTree(fault);
+    is_right(alloc, "solve~-", file, 500, NOTHING_FAILS, ends, text)
 }
 
 /// Whether the file is no tree or cut short after so many bytes.
-fn is_cut_short(alloc: Global, file: &[u8]) -> Result<bool, AllocError> {
+fn is_cut_short(alloc: Global, file: &[u8]) -> bool {
     // The tree begins with the two bytes behind the first line.
-    let (fault, text) = if file.len() < 20 {
-        (TreeFault::NoTree, "fault file no tree\n")
-    } else {
-        (TreeFault::CutShort, "fault file cut short\n")
-    };
-    let status = Status::BadFile(FileFault::Tree(fault));
-    is_right(
-        alloc,
-        "solve~-",
-        file,
-        500,
-        NOTHING_FAILS,
-        status,
-        text.as_bytes(),
-    )
+    if file.len() < 20 {
+        return has_tree_fault(alloc, file, TreeFault::NoTree, b"fault file no tree\n");
+    }
+    has_tree_fault(alloc, file, TreeFault::CutShort, b"fault file cut short\n")
+}
+
+/// The first length at which a file isn't told to be cut.
+fn wrong_length(alloc: Global, file: &[u8]) -> Option<usize> {
+    for len in 0..file.len() {
+        if !is_cut_short(alloc, &file[..len]) {
+            return Some(len);
+        }
+    }
+    None
 }
 
 #[test]
-fn a_file_that_is_cut_is_told(rt: HostRuntime) -> Result<(), Fail> {
-    for len in 0..COPY.len() {
-        assert!(rt; is_cut_short(rt.alloc(), &COPY[..len])?, "{len}");
-    }
-    Ok(())
+fn a_file_that_is_cut_is_told(rt: HostRuntime) {
+    assert_eq!(rt; wrong_length(rt.alloc(), COPY), None);
 }
 
-/// A sink that counts its writes and the lines that they end.
-#[derive(Drop)]
-struct Counter {
-    writes: usize,
-    lines: usize,
-}
-
-impl Sink for Counter {
-    ghost use Rattle.std.specs.Prelude.{None};
-
-    ghost holds = { λ _. None };
-
-    ghost faults = { λ _. 0 };
-
-    fn write(&mut self, bytes: &[u8]) -> Result<(), Failed> {
-        self.writes = self.writes.saturating_add(1);
-        for byte in bytes {
-            if *byte == b'\n' {
-                self.lines = self.lines.saturating_add(1);
-            }
-        }
-        Ok(())
-    }
-}
-
-/// How many writes a run makes, and how many lines they end.
-fn counts(alloc: Global, words: &str) -> Result<(usize, usize), AllocError> {
-    let words = words_between(alloc, words)?;
-    let mut shelf = shelf(alloc, u64::MAX)?;
-    let mut source = MemorySource::new(b"ea\nspend\n".to_vec(alloc)?, 7, Vec::new(alloc));
-    let mut out = Counter {
-        writes: 0,
-        lines: 0,
-    };
-    let _status = status_of(alloc, words.as_slice(), &mut shelf, &mut source, &mut out);
-    Ok((out.writes, out.lines))
-}
-
-/// Words, the number of writes and that of lines.
-const COUNTS: [(&str, usize, usize); 8] = [
+static COUNTS: [Counts; 8] = [
     ("trial~7", 1, 6),
     ("solve~c", 1, 9),
     ("safe~c", 1, 9),
@@ -324,10 +320,25 @@ const COUNTS: [(&str, usize, usize); 8] = [
     ("play~c", 5, 5),
 ];
 
-#[test]
-fn a_text_and_each_line_of_a_game_are_one_write(rt: HostRuntime) -> Result<(), Fail> {
-    for (words, writes, lines) in COUNTS {
-        assert!(rt; counts(rt.alloc(), words)? == (writes, lines), "{words}");
+/// The first row of the table of counts that isn't so, over a shelf that each run only reads.
+fn wrong_counts_on(alloc: Global, shelf: &mut MemoryShelf) -> Option<usize> {
+    for (at, row) in COUNTS.iter().enumerate() {
+        if !counts(alloc, shelf, row) {
+            return Some(at);
+        }
     }
-    Ok(())
+    None
+}
+
+/// The same over the shelf of the tests; the first row where there is no memory for it.
+fn wrong_counts(alloc: Global) -> Option<usize> {
+    match shelf(alloc, NEVER) {
+        Ok(mut shelf) => wrong_counts_on(alloc, &mut shelf),
+        Err(_error) => Some(0),
+    }
+}
+
+#[test]
+fn a_text_and_each_line_of_a_game_are_one_write(rt: HostRuntime) {
+    assert_eq!(rt; wrong_counts(rt.alloc()), None);
 }

@@ -1,10 +1,8 @@
 //! Sessions of the engine.
 
-use crate::play_tests::repeated;
+use crate::endings::Ends;
 use crate::runs::{Failing, FailingRow, NOTHING_FAILS, first_failing_wrong, is_right};
-use endgame_run::Status;
 use std::alloc::{AllocError, Global};
-use std::test::Fail;
 
 const LOADED: &[u8] =
     b"1 protocol_version\nloadsgf c\ngenmove b\nplay w e2\nplay b pass\nplay w pass\ngenmove b\ngenmove w\ngenmove b\n\
@@ -34,15 +32,15 @@ const NO_SECOND_WRITE: Failing = Failing {
 };
 
 /// Sessions of the engine.
-const SESSIONS: [FailingRow; 8] = [
-    ("gtp", LOADED, 500, NOTHING_FAILS, Status::Done, LOADED_TEXT),
-    ("gtp", FRESH, 500, NOTHING_FAILS, Status::Done, FRESH_TEXT),
+static SESSIONS: [FailingRow; 8] = [
+    ("gtp", LOADED, 500, NOTHING_FAILS, Ends::Done, LOADED_TEXT),
+    ("gtp", FRESH, 500, NOTHING_FAILS, Ends::Done, FRESH_TEXT),
     (
         "gtp~--positions~1~--parts~1",
         b"loadsgf c\ngenmove b",
         500,
         NOTHING_FAILS,
-        Status::Done,
+        Ends::Done,
         "= \n\n? cannot solve\n\n",
     ),
     (
@@ -50,7 +48,7 @@ const SESSIONS: [FailingRow; 8] = [
         b"loadsgf c\nloadsgf c\n",
         500,
         NO_FIRST_LOAD,
-        Status::Done,
+        Ends::Done,
         "? cannot load file\n\n= \n\n",
     ),
     (
@@ -58,7 +56,7 @@ const SESSIONS: [FailingRow; 8] = [
         b"2 name\nversion\n",
         500,
         NO_SECOND_READ,
-        Status::CannotRead,
+        Ends::CannotRead,
         "=2 gdsolve\n\nfault cannot read\n",
     ),
     (
@@ -66,7 +64,7 @@ const SESSIONS: [FailingRow; 8] = [
         b"name\nversion\n",
         500,
         NO_SECOND_WRITE,
-        Status::CannotWrite,
+        Ends::CannotWrite,
         "= gdsolve\n\n",
     ),
     (
@@ -74,7 +72,7 @@ const SESSIONS: [FailingRow; 8] = [
         b"name\n",
         5,
         NOTHING_FAILS,
-        Status::CannotWrite,
+        Ends::CannotWrite,
         "= gds",
     ),
     (
@@ -82,58 +80,65 @@ const SESSIONS: [FailingRow; 8] = [
         b"name\n",
         500,
         NOTHING_FAILS,
-        Status::Usage,
+        Ends::Usage,
         "fault usage\n",
     ),
 ];
 
 #[test]
-fn answers_the_lines(rt: HostRuntime) -> Result<(), Fail> {
-    assert_eq!(rt; first_failing_wrong(rt.alloc(), &SESSIONS)?, None);
-    Ok(())
+fn answers_the_lines(rt: HostRuntime) {
+    assert_eq!(rt; first_failing_wrong(rt.alloc(), &SESSIONS), None);
 }
 
-/// Whether the engine answers so many empty lines and what stands behind them so.
-fn is_answered(
-    alloc: Global,
-    blanks: usize,
-    last: &[u8],
-    status: Status,
-    text: &str,
-) -> Result<bool, AllocError> {
-    let mut lines = repeated(alloc, b"\n", blanks)?;
-    lines.extend_from_slice(last)?;
-    is_right(
-        alloc,
-        "gtp",
-        &lines,
-        500,
-        NOTHING_FAILS,
-        status,
-        text.as_bytes(),
-    )
-}
+/// Empty lines, what stands behind them, how the session ends, and what is written.
+type Blanks = (usize, &'static [u8], Ends, &'static str);
 
-/// Empty lines, what stands behind them, and what the session comes to.
-const MANY_LINES: [(usize, &[u8], Status, &str); 4] = [
-    (9_999, b"", Status::Done, ""),
-    (9_999, b"quit\nname\n", Status::Done, "= \n\n"),
+static MANY_LINES: [Blanks; 4] = [
+    (9_999, b"", Ends::Done, ""),
+    (9_999, b"quit\nname\n", Ends::Done, "= \n\n"),
     (
         9_999,
         b"name",
-        Status::TooManyLines,
+        Ends::TooManyLines,
         "= gdsolve\n\nfault lines\n",
     ),
-    (10_000, b"quit\n", Status::TooManyLines, "fault lines\n"),
+    (10_000, b"quit\n", Ends::TooManyLines, "fault lines\n"),
 ];
 
-#[test]
-fn reads_ten_thousand_lines(rt: HostRuntime) -> Result<(), Fail> {
-    for (blanks, last, status, text) in MANY_LINES {
-        assert!(rt;
-            is_answered(rt.alloc(), blanks, last, status, text)?,
-            "{blanks} {text}"
-        );
+/// So many empty lines and what stands behind them.
+fn lines_of(alloc: Global, blanks: usize, last: &[u8]) -> Result<Vec<u8>, AllocError> {
+    let mut lines = vec![in alloc; b'\n'; blanks]?;
+    lines.extend_from_slice(last)?;
+    Ok(lines)
+}
+
+/// Whether the engine answers them so.
+fn is_answered(alloc: Global, row: &Blanks) -> bool {
+    match lines_of(alloc, row.0, row.1) {
+        Ok(lines) => is_right(
+            alloc,
+            "gtp",
+            &lines,
+            500,
+            NOTHING_FAILS,
+            row.2,
+            row.3.as_bytes(),
+        ),
+        Err(_error) => false,
     }
-    Ok(())
+}
+
+/// The first of these sessions that comes to something else.
+fn wrong_session(alloc: Global) -> Option<usize> {
+    for (at, row) in MANY_LINES.iter().enumerate() {
+        if !is_answered(alloc, row) {
+            return Some(at);
+        }
+    }
+    None
+}
+
+#[test]
+fn reads_ten_thousand_lines(rt: HostRuntime) {
+    assert_eq!(rt; wrong_session(rt.alloc()), None);
 }

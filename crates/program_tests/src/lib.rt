@@ -18,7 +18,17 @@ mod cycle_text_tests;
 #[cfg(test)]
 mod device_tests;
 #[cfg(test)]
+mod endings;
+#[cfg(test)]
+mod engine_lines;
+#[cfg(test)]
+mod engine_rooms;
+#[cfg(test)]
 mod engine_tests;
+#[cfg(test)]
+mod every_line;
+#[cfg(test)]
+mod files;
 #[cfg(test)]
 mod gtp_tests;
 #[cfg(test)]
@@ -45,3 +55,7 @@ mod territory_tests;
 mod turn_tests;
 #[cfg(test)]
 mod values_tests;
+#[cfg(test)]
+mod worked_games;
+#[cfg(test)]
+mod write_counts;

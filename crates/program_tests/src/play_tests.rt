@@ -2,12 +2,12 @@
 
 ghost use Rattle.std.specs.Prelude.{◌≤◌};
 
+use crate::endings::{Ends, status_by};
+use crate::every_line::games_won;
 use crate::runs::{
-    Failing, FailingRow, NOTHING_FAILS, first_failing_wrong, is_right, is_right_in_pieces, outcome,
+    Failing, FailingRow, NOTHING_FAILS, first_failing_wrong, is_right, is_right_in_pieces,
 };
-use endgame_run::Status;
 use std::alloc::{AllocError, Global};
-use std::test::Fail;
 
 /// The lines of a whole game on `.X.X.O.O.` / `XXXXXOOOO`, Black the engine and to move.
 const LINES: &[u8] = b"ea\nea\naa\nhello\nhalf\nspend\nspend";
@@ -36,23 +36,23 @@ const NO_SECOND_WRITE: Failing = Failing {
 };
 
 /// Games over the lines of the source.
-const GAMES: [FailingRow; 9] = [
+static GAMES: [FailingRow; 9] = [
     (
         AS_BLACK,
         b"spend\nspend\n",
         500,
         NO_SECOND_READ,
-        Status::CannotRead,
+        Ends::CannotRead,
         "engine ea\nplayed spend\nengine spend\nfault cannot read\n",
     ),
-    (AS_BLACK, LINES, 500, NOTHING_FAILS, Status::Done, GAME),
-    ("play~c", LINES, 500, NOTHING_FAILS, Status::Done, GAME),
+    (AS_BLACK, LINES, 500, NOTHING_FAILS, Ends::Done, GAME),
+    ("play~c", LINES, 500, NOTHING_FAILS, Ends::Done, GAME),
     (
         AS_BLACK,
         b"ea\nspend\n",
         500,
         NOTHING_FAILS,
-        Status::Done,
+        Ends::Done,
         UNFINISHED,
     ),
     (
@@ -60,7 +60,7 @@ const GAMES: [FailingRow; 9] = [
         LINES,
         500,
         READ_FAILS,
-        Status::CannotRead,
+        Ends::CannotRead,
         "engine ea\nfault cannot read\n",
     ),
     (
@@ -68,7 +68,7 @@ const GAMES: [FailingRow; 9] = [
         LINES,
         500,
         NO_SECOND_WRITE,
-        Status::CannotWrite,
+        Ends::CannotWrite,
         "engine ea\n",
     ),
     (
@@ -76,7 +76,7 @@ const GAMES: [FailingRow; 9] = [
         LINES,
         16,
         READ_FAILS,
-        Status::CannotWrite,
+        Ends::CannotWrite,
         "engine ea\nfault ",
     ),
     (
@@ -84,7 +84,7 @@ const GAMES: [FailingRow; 9] = [
         LINES,
         500,
         NOTHING_FAILS,
-        Status::RegionLimit,
+        Ends::RegionLimit,
         "fault region ea positions over 8\n",
     ),
     (
@@ -92,19 +92,18 @@ const GAMES: [FailingRow; 9] = [
         b"ea\nspend\n",
         500,
         NOTHING_FAILS,
-        Status::Done,
+        Ends::Done,
         "played ea\nengine spend\nplayed spend\nengine spend\ninput ended\n",
     ),
 ];
 
 #[test]
-fn plays_over_the_lines(rt: HostRuntime) -> Result<(), Fail> {
-    assert_eq!(rt; first_failing_wrong(rt.alloc(), &GAMES)?, None);
-    Ok(())
+fn plays_over_the_lines(rt: HostRuntime) {
+    assert_eq!(rt; first_failing_wrong(rt.alloc(), &GAMES), None);
 }
 
 /// Lines, and the text of the game over them.
-const LINES_IN_PIECES: [(&[u8], &str); 2] = [
+static LINES_IN_PIECES: [(&[u8], &str); 2] = [
     (LINES, GAME),
     (
         b"\x0b spend\t\r\n\nSpend\nspend half\n  spend",
@@ -113,175 +112,123 @@ const LINES_IN_PIECES: [(&[u8], &str); 2] = [
     ),
 ];
 
-/// Whether the lines in pieces of a size give the texts.
-fn are_taken(alloc: Global, piece: usize) -> Result<bool, AllocError>
+/// Whether lines in pieces of a size give a text.
+fn is_taken(alloc: Global, lines: &[u8], piece: usize, text: &str) -> bool
     requires { 1 ≤ piece }
 {
-    for (lines, text) in LINES_IN_PIECES {
-        let text = text.as_bytes();
-        if !is_right_in_pieces(
-            alloc,
-            AS_BLACK,
-            lines,
-            piece,
-            500,
-            NOTHING_FAILS,
-            Status::Done,
-            text,
-        )? {
-            return Ok(false);
-        }
-    }
-    Ok(true)
-}
-
-#[test]
-fn takes_lines_in_pieces(rt: HostRuntime) -> Result<(), Fail> {
-    for piece in [1, 2, 100, 1000] {
-        assert!(rt; are_taken(rt.alloc(), piece)?, "{piece}");
-    }
-    Ok(())
-}
-
-/// `count` times the text.
-pub(crate) fn repeated(alloc: Global, text: &[u8], count: usize) -> Result<Vec<u8>, AllocError> {
-    let mut bytes = Vec::new(alloc);
-    for _ in 0..count {
-        bytes.extend_from_slice(text)?;
-    }
-    Ok(bytes)
-}
-
-const CUT: &str = "engine ea\nplayed spend\nengine spend\nrefused line\ninput ended\n";
-
-/// Whether `spend` with so many blanks behind it gives the text.
-fn is_cut_so(alloc: Global, blanks: usize, text: &str) -> Result<bool, AllocError> {
-    let mut lines = b"spend".to_vec(alloc)?;
-    lines.extend_from_slice(&repeated(alloc, b" ", blanks)?)?;
-    lines.extend_from_slice(b"\n")?;
-    is_right(
+    is_right_in_pieces(
         alloc,
         AS_BLACK,
-        &lines,
+        lines,
+        piece,
         500,
         NOTHING_FAILS,
-        Status::Done,
+        Ends::Done,
         text.as_bytes(),
     )
 }
 
+/// The first of the lines that don't give their text in pieces of a size.
+fn wrong_lines(alloc: Global, piece: usize) -> Option<usize>
+    requires { 1 ≤ piece }
+{
+    for (at, row) in LINES_IN_PIECES.iter().enumerate() {
+        if !is_taken(alloc, row.0, piece, row.1) {
+            return Some(at);
+        }
+    }
+    None
+}
+
 #[test]
-fn a_line_is_cut_after_256_bytes(rt: HostRuntime) -> Result<(), Fail> {
-    let alloc = rt.alloc();
-    // What is left of a line that was cut is a line of its own.
-    let whole = "engine ea\nplayed spend\nengine spend\ninput ended\n";
-    for (blanks, text) in [(250, whole), (251, CUT), (252, CUT)] {
-        assert!(rt; is_cut_so(alloc, blanks, text)?, "{blanks}");
+fn takes_lines_in_pieces(rt: HostRuntime) {
+    assert_eq!(rt; wrong_lines(rt.alloc(), 1), None);
+    assert_eq!(rt; wrong_lines(rt.alloc(), 2), None);
+    assert_eq!(rt; wrong_lines(rt.alloc(), 100), None);
+    assert_eq!(rt; wrong_lines(rt.alloc(), 1000), None);
+}
+
+/// Appends the text so many times.
+pub(crate) fn append(bytes: &mut Vec<u8>, text: &[u8], count: usize) -> Result<(), AllocError> {
+    for _ in 0..count {
+        bytes.extend_from_slice(text)?;
     }
     Ok(())
 }
 
+const WHOLE: &str = "engine ea\nplayed spend\nengine spend\ninput ended\n";
+
+const CUT: &str = "engine ea\nplayed spend\nengine spend\nrefused line\ninput ended\n";
+
+/// Numbers of blanks behind `spend`, and the text. What is left of a line that was cut is a line of its own.
+static BLANKS: [(usize, &str); 3] = [(250, WHOLE), (251, CUT), (252, CUT)];
+
+/// Appends `spend` with so many blanks behind it.
+fn append_spend(lines: &mut Vec<u8>, blanks: usize) -> Result<(), AllocError> {
+    append(lines, b"spend", 1)?;
+    append(lines, b" ", blanks)?;
+    append(lines, b"\n", 1)
+}
+
+/// Whether that gives the text.
+fn is_cut_so(alloc: Global, lines: &mut Vec<u8>, blanks: usize, text: &str) -> bool {
+    append_spend(lines, blanks) == Ok(()) && is_taken(alloc, lines, 7, text)
+}
+
+/// The first of the numbers of blanks that gives another text.
+fn wrong_blanks(alloc: Global) -> Option<usize> {
+    for (at, row) in BLANKS.iter().enumerate() {
+        if !is_cut_so(alloc, &mut Vec::new(alloc), row.0, row.1) {
+            return Some(at);
+        }
+    }
+    None
+}
+
 #[test]
-fn reads_ten_thousand_lines(rt: HostRuntime) -> Result<(), Fail> {
-    let alloc = rt.alloc();
-    let lines = repeated(alloc, b"x\n", 10_000)?;
-    let mut text = b"engine ea\n".to_vec(alloc)?;
-    text.extend_from_slice(&repeated(alloc, b"refused line\n", 10_000)?)?;
-    text.extend_from_slice(b"fault lines\n")?;
-    let status = Status::TooManyLines;
-    assert!(rt;
-        is_right(
+fn a_line_is_cut_after_256_bytes(rt: HostRuntime) {
+    assert_eq!(rt; wrong_blanks(rt.alloc()), None);
+}
+
+/// Appends what is written where so many lines are refused.
+fn append_refusals(text: &mut Vec<u8>, count: usize) -> Result<(), AllocError> {
+    append(text, b"engine ea\n", 1)?;
+    append(text, b"refused line\n", count)?;
+    append(text, b"fault lines\n", 1)
+}
+
+/// Whether the game goes so.
+fn has_too_many_lines(alloc: Global, lines: &mut Vec<u8>, text: &mut Vec<u8>) -> bool {
+    append(lines, b"x\n", 10_000) == Ok(())
+        && append_refusals(text, 10_000) == Ok(())
+        && is_right(
             alloc,
             AS_BLACK,
-            &lines,
+            lines,
             200_000,
             NOTHING_FAILS,
-            status,
-            &text
-        )?
-    );
-    assert_eq!(rt; status.code(), 9);
-    Ok(())
+            Ends::TooManyLines,
+            text,
+        )
+}
+
+#[test]
+fn reads_ten_thousand_lines(rt: HostRuntime) {
+    let alloc = rt.alloc();
+    assert!(rt; has_too_many_lines(alloc, &mut Vec::new(alloc), &mut Vec::new(alloc)));
+    assert_eq!(rt; status_by(Ends::TooManyLines).code(), 9);
 }
 
 /// What the opponent may try at each turn.
-const TRIES: [&[u8]; 5] = [b"eb\n", b"fb\n", b"gb\n", b"spend\n", b"half\n"];
-
-/// The lines of a list of tries, each by its number in a table.
-fn lines_of(alloc: Global, table: &[&[u8]], tries: &[usize]) -> Result<Vec<u8>, AllocError> {
-    let mut lines = Vec::new(alloc);
-    for number in tries {
-        if let Some(line) = table.get(*number) {
-            lines.extend_from_slice(line)?;
-        }
-    }
-    Ok(lines)
-}
-
-/// The next list of so many tries that doesn't begin with this one, or the empty one.
-fn go_on(tries: &mut Vec<usize>, most: usize) -> Result<(), AllocError> {
-    for _ in 0..tries.len() {
-        let next = tries.pop().map_or(most, |last| last.saturating_add(1));
-        if next < most {
-            tries.push(next)?;
-            return Ok(());
-        }
-    }
-    Ok(())
-}
-
-/// Whether a line of the text begins so.
-fn has_line(text: &[u8], beginning: &[u8]) -> bool {
-    text.windows(beginning.len().max(1))
-        .any(|place| place == beginning)
-}
-
-/// How many games are played to their end against all lines of the tries, each of which the engine wins; or nothing where one
-/// is lost, or a game is left.
-pub(crate) fn games_won(
-    alloc: Global,
-    words: &str,
-    table: &[&[u8]],
-    winner: &[u8],
-) -> Result<Option<u32>, AllocError> {
-    let mut tries = Vec::new(alloc);
-    let mut games = 0_u32;
-    for _ in 0..5_000 {
-        let lines = lines_of(alloc, table, &tries)?;
-        let (status, text) = outcome(alloc, words, &lines, 5_000, NOTHING_FAILS)?;
-        if status != Status::Done {
-            return Ok(None);
-        }
-        let refused = has_line(&text, b"refused");
-        if has_line(&text, b"input ended") && !refused {
-            tries.push(0)?;
-            continue;
-        }
-        if !refused {
-            if !has_line(&text, winner) {
-                return Ok(None);
-            }
-            games = games.saturating_add(1);
-        }
-        go_on(&mut tries, table.len())?;
-        if tries.is_empty() {
-            return Ok(Some(games));
-        }
-    }
-    Ok(None)
-}
+static TRIES: [&[u8]; 5] = [b"eb\n", b"fb\n", b"gb\n", b"spend\n", b"half\n"];
 
 #[test]
-fn an_engine_that_wins_never_loses(rt: HostRuntime) -> Result<(), Fail> {
+fn an_engine_that_wins_never_loses(rt: HostRuntime) {
     let alloc = rt.alloc();
-    let long = games_won(alloc, "play~f", &TRIES, b"winner black")?;
-    assert_eq!(rt; long, Some(4));
-    let short = games_won(
-        alloc,
-        "play~d~--turn~white~--as~black",
-        &TRIES,
-        b"winner black",
-    )?;
-    assert_eq!(rt; short, Some(4));
-    Ok(())
+    assert_eq!(rt;
+        games_won(alloc, "play~f", &TRIES, b"winner black"),
+        Some(4)
+    );
+    let words = "play~d~--turn~white~--as~black";
+    assert_eq!(rt; games_won(alloc, words, &TRIES, b"winner black"), Some(4));
 }

@@ -1,8 +1,8 @@
 //! What `solve`, `safe` and `trial` write, and words in and outside the grammar.
 
-use crate::runs::{Row, TIE, first_wrong};
-use endgame_run::Status;
-use std::test::Fail;
+use crate::endings::Ends;
+use crate::files::TIE;
+use crate::runs::{Row, first_wrong};
 
 pub(crate) const TIE_TEXT: &str =
     "side black\npurse black 2\npurse white 2\nhalf none\nregions 0\npositions 0\nwinner white\nmove none\n";
@@ -71,122 +71,104 @@ const TWO_SHAPES_TEXT: &str =
     "trial 4294326608\nregions 12\npositions 194\nshapes 2\nwinner black\nmove hb\n";
 
 /// Files of the shelf.
-const SHELF_RUNS: [Row; 18] = [
-    ("solve~a", b"", Status::Done, TIE_TEXT),
-    ("solve~a~--turn~white", b"", Status::Done, WHITE_TIE_TEXT),
+static SHELF_RUNS: [Row; 18] = [
+    ("solve~a", b"", Ends::Done, TIE_TEXT),
+    ("solve~a~--turn~white", b"", Ends::Done, WHITE_TIE_TEXT),
     (
         "solve~a~--turn~white~--komi~0.5",
         b"",
-        Status::Done,
+        Ends::Done,
         HALF_TEXT,
     ),
     (
         "solve~a~--komi~0~--black-prisoners~1",
         b"",
-        Status::Done,
+        Ends::Done,
         PRISONER_TEXT,
     ),
-    ("solve~g", b"", Status::Done, CAPTIVE_TEXT),
-    ("solve~saved", b"", Status::Done, HALF_TEXT),
+    ("solve~g", b"", Ends::Done, CAPTIVE_TEXT),
+    ("solve~saved", b"", Ends::Done, HALF_TEXT),
     (
         "solve~saved~--komi~0~--turn~black",
         b"",
-        Status::Done,
+        Ends::Done,
         TIE_TEXT,
     ),
-    ("solve~b", b"", Status::Done, TWO_POINTS_TEXT),
-    ("solve~b~--positions~9", b"", Status::Done, TWO_POINTS_TEXT),
+    ("solve~b", b"", Ends::Done, TWO_POINTS_TEXT),
+    ("solve~b~--positions~9", b"", Ends::Done, TWO_POINTS_TEXT),
     (
         "solve~c~--turn~white",
         b"",
-        Status::Done,
+        Ends::Done,
         WHITE_ONE_POINT_TEXT,
     ),
-    ("solve~d", b"", Status::Done, CORRIDOR_TEXT),
-    (
-        "solve~d~--turn~white",
-        b"",
-        Status::Done,
-        WHITE_CORRIDOR_TEXT,
-    ),
-    ("solve~d~--parts~2", b"", Status::Done, CORRIDOR_TEXT),
-    ("solve~f", b"", Status::Done, LONG_CORRIDOR_TEXT),
-    ("solve~visited", b"", Status::Done, VISITED_TEXT),
+    ("solve~d", b"", Ends::Done, CORRIDOR_TEXT),
+    ("solve~d~--turn~white", b"", Ends::Done, WHITE_CORRIDOR_TEXT),
+    ("solve~d~--parts~2", b"", Ends::Done, CORRIDOR_TEXT),
+    ("solve~f", b"", Ends::Done, LONG_CORRIDOR_TEXT),
+    ("solve~visited", b"", Ends::Done, VISITED_TEXT),
     (
         "solve~visited~--turn~white",
         b"",
-        Status::Done,
+        Ends::Done,
         WHITE_VISITED_TEXT,
     ),
-    ("safe~g", b"", Status::Done, CAPTIVE_SAFE),
-    ("safe~c~--turn~white", b"", Status::Done, POINT_SAFE),
+    ("safe~g", b"", Ends::Done, CAPTIVE_SAFE),
+    ("safe~c~--turn~white", b"", Ends::Done, POINT_SAFE),
 ];
 
 #[test]
-fn solves_files_of_the_shelf(rt: HostRuntime) -> Result<(), Fail> {
-    assert_eq!(rt; first_wrong(rt.alloc(), &SHELF_RUNS)?, None);
-    Ok(())
+fn solves_files_of_the_shelf(rt: HostRuntime) {
+    assert_eq!(rt; first_wrong(rt.alloc(), &SHELF_RUNS), None);
 }
 
 /// Regions past the limits, and one with a cycle.
-const REGION_FAULTS: [Row; 3] = [
+static REGION_FAULTS: [Row; 3] = [
     (
         "solve~b~--positions~8",
         b"",
-        Status::RegionLimit,
+        Ends::RegionLimit,
         "fault region ea positions over 8\n",
     ),
-    (
-        "solve~d~--parts~1",
-        b"",
-        Status::FormLimit,
-        "fault form eb\n",
-    ),
-    ("solve~e", b"", Status::Cycle, CYCLE),
+    ("solve~d~--parts~1", b"", Ends::FormLimit, "fault form eb\n"),
+    ("solve~e", b"", Ends::Cycle, CYCLE),
 ];
 
 #[test]
-fn answers_faults_of_regions(rt: HostRuntime) -> Result<(), Fail> {
-    assert_eq!(rt; first_wrong(rt.alloc(), &REGION_FAULTS)?, None);
-    Ok(())
+fn answers_faults_of_regions(rt: HostRuntime) {
+    assert_eq!(rt; first_wrong(rt.alloc(), &REGION_FAULTS), None);
 }
 
 /// Words in and outside the grammar, with a file in the source.
-const WORDS: [Row; 15] = [
-    ("", TIE, Status::Usage, "fault usage\n"),
-    ("solve", TIE, Status::Usage, "fault usage\n"),
-    ("solve~a~--komi~0.25", TIE, Status::Usage, "fault usage\n"),
+static WORDS: [Row; 15] = [
+    ("", TIE, Ends::Usage, "fault usage\n"),
+    ("solve", TIE, Ends::Usage, "fault usage\n"),
+    ("solve~a~--komi~0.25", TIE, Ends::Usage, "fault usage\n"),
     (
         "solve~a~--turn~black~--turn~white",
         TIE,
-        Status::Usage,
+        Ends::Usage,
         "fault usage\n",
     ),
-    ("play~-", TIE, Status::Usage, "fault usage\n"),
-    ("mend~a", TIE, Status::Usage, "fault usage\n"),
-    (
-        "play~nowhere",
-        TIE,
-        Status::CannotRead,
-        "fault cannot read\n",
-    ),
-    ("safe~a~--parts~5", TIE, Status::Usage, "fault usage\n"),
-    ("trial~7", TIE, Status::Done, SEVEN_TEXT),
-    ("trial~0000000007", TIE, Status::Done, SEVEN_TEXT),
-    ("trial~65536", TIE, Status::Done, NO_REGION_TEXT),
-    ("trial~564787871", TIE, Status::Done, WHITE_WINS_TEXT),
-    ("trial~4294326608", TIE, Status::Done, TWO_SHAPES_TEXT),
-    ("trial~4294967296", TIE, Status::Usage, "fault usage\n"),
+    ("play~-", TIE, Ends::Usage, "fault usage\n"),
+    ("mend~a", TIE, Ends::Usage, "fault usage\n"),
+    ("play~nowhere", TIE, Ends::CannotRead, "fault cannot read\n"),
+    ("safe~a~--parts~5", TIE, Ends::Usage, "fault usage\n"),
+    ("trial~7", TIE, Ends::Done, SEVEN_TEXT),
+    ("trial~0000000007", TIE, Ends::Done, SEVEN_TEXT),
+    ("trial~65536", TIE, Ends::Done, NO_REGION_TEXT),
+    ("trial~564787871", TIE, Ends::Done, WHITE_WINS_TEXT),
+    ("trial~4294326608", TIE, Ends::Done, TWO_SHAPES_TEXT),
+    ("trial~4294967296", TIE, Ends::Usage, "fault usage\n"),
     (
         "solve~nowhere",
         TIE,
-        Status::CannotRead,
+        Ends::CannotRead,
         "fault cannot read\n",
     ),
 ];
 
 #[test]
-fn answers_words_by_their_grammar(rt: HostRuntime) -> Result<(), Fail> {
-    assert_eq!(rt; first_wrong(rt.alloc(), &WORDS)?, None);
-    Ok(())
+fn answers_words_by_their_grammar(rt: HostRuntime) {
+    assert_eq!(rt; first_wrong(rt.alloc(), &WORDS), None);
 }

@@ -1,10 +1,9 @@
 //! Regions whose openings have one shape.
 
-use crate::solved_tests::{CORRIDOR, Game, ONE_OPEN, ONE_POINT, TWO_APART, answers_of};
-use endgame_solver::SolveError;
+use crate::solved_tests::answers_of;
+use crate::worked_games::{CORRIDOR, Game, ONE_OPEN, ONE_POINT, TWO_APART};
 use go_grid::Colour;
-use std::marker::Brand;
-use std::sync::ledger::Blank;
+use std::alloc::Global;
 
 /// A corridor of two points for each player: the second is the first, turned and with the colours exchanged.
 const OPPOSITE: Game = Game {
@@ -20,8 +19,10 @@ const DIFFERENT: Game = Game {
     ..CORRIDOR
 };
 
-/// Games with the number of their regions and that of the shapes of these.
-const SHAPES: [(Game, usize, usize); 5] = [
+/// A game with the number of its regions and that of the shapes of these.
+type Shaped = (Game, usize, usize);
+
+static SHAPES: [Shaped; 5] = [
     (ONE_OPEN, 1, 1),
     (ONE_POINT, 1, 1),
     (TWO_APART, 2, 1),
@@ -29,25 +30,40 @@ const SHAPES: [(Game, usize, usize); 5] = [
     (DIFFERENT, 2, 2),
 ];
 
-#[test]
-fn numbers_of_shapes(rt: HostRuntime) -> Result<(), SolveError> {
-    for (at, (game, regions, shapes)) in SHAPES.into_iter().enumerate() {
-        let answers = answers_of::<Brand>(rt.alloc(), Blank::new(1), game)?;
-        assert_eq!(rt;
-            (answers.regions, answers.shapes),
-            (regions, shapes),
-            "at {at}"
-        );
+/// Whether a game has these numbers.
+fn has_shapes(alloc: Global, row: &Shaped) -> bool {
+    match answers_of(alloc, row.0) {
+        Some(answers) => answers.regions == row.1 && answers.shapes == row.2,
+        None => false,
     }
-    Ok(())
+}
+
+/// The first of the games with other numbers.
+fn wrong_shapes(alloc: Global) -> Option<usize> {
+    for (at, row) in SHAPES.iter().enumerate() {
+        if !has_shapes(alloc, row) {
+            return Some(at);
+        }
+    }
+    None
 }
 
 #[test]
-fn opposite_values(rt: HostRuntime) -> Result<(), SolveError> {
-    for side in [Colour::Black, Colour::White] {
-        let game = Game { side, ..OPPOSITE };
-        let answers = answers_of::<Brand>(rt.alloc(), Blank::new(1), game)?;
-        assert_eq!(rt; answers.winner, side.other(), "the values add up to 0");
+fn numbers_of_shapes(rt: HostRuntime) {
+    assert_eq!(rt; wrong_shapes(rt.alloc()), None);
+}
+
+/// Whether a player who moves first in the game of opposite corridors loses, as their values add up to 0.
+fn loses_first(alloc: Global, side: Colour) -> bool {
+    let game = Game { side, ..OPPOSITE };
+    match answers_of(alloc, game) {
+        Some(answers) => answers.winner == side.other(),
+        None => false,
     }
-    Ok(())
+}
+
+#[test]
+fn opposite_values(rt: HostRuntime) {
+    assert!(rt; loses_first(rt.alloc(), Colour::Black));
+    assert!(rt; loses_first(rt.alloc(), Colour::White));
 }

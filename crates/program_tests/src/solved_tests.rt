@@ -1,135 +1,13 @@
-//! Worked games, on boards drawn row by row with X for black and O for white.
+//! Answers of worked games.
 
-ghost use Rattle.std.specs.Prelude.{◌≡◌, ◌<◌, ◌≤◌, ◌^◌, IfOk, IfSome, unsigned_abs};
-ghost use Rattle.go_grid.specs.Chain.{IsSettled};
-
-use drawings::board;
+use crate::worked_games::{
+    CORRIDOR, EMPTY, ENDLESS, Game, LIMITS, ONE_OPEN, ONE_POINT, TWO_OPEN, WITH_STONE, begun,
+};
 use endgame_solver::{Limits, SolveError, Solved};
 use game_store::{Form, GameId, Store};
 use go_grid::{Colour, Point};
-use local_play::Steps;
-use sgf_go::Setup;
-use std::alloc::{AllocError, Global};
-use std::marker::Brand;
-use std::sync::ledger::{Blank, Ledger};
-use whole_rules::{Move, MoveError, Whole, plain_winner};
-
-/// A board, a komi in half-points and the side to move.
-#[derive(Clone, Copy)]
-pub(crate) struct Game {
-    pub columns: u8,
-    pub rows: u8,
-    pub drawing: &'static [u8],
-    pub komi: i64,
-    pub side: Colour,
-}
-
-/// One open point between the players.
-pub(crate) const ONE_OPEN: Game = Game {
-    columns: 9,
-    rows: 2,
-    drawing: b".X.X.O.O.XXXXXOOOO",
-    komi: 0,
-    side: Colour::Black,
-};
-
-/// Two open points that belong together.
-pub(crate) const TWO_OPEN: Game = Game {
-    drawing: b".X.X.O.O.XXXX.OOOO",
-    ..ONE_OPEN
-};
-
-/// Two open points apart from each other.
-pub(crate) const TWO_APART: Game = Game {
-    rows: 3,
-    drawing: b".X.X.O.O.XXXXXOOOOXXXX.OOOO",
-    ..ONE_OPEN
-};
-
-/// A corridor of two points, in Black's stones.
-pub(crate) const CORRIDOR: Game = Game {
-    columns: 10,
-    rows: 3,
-    drawing: b".X.XXXO.O.XXXX..OOOOXXXXXXOOOO",
-    ..ONE_OPEN
-};
-
-/// The same with a white stone in it.
-pub(crate) const WITH_STONE: Game = Game {
-    drawing: b".X.XXXO.O.XXXXO.OOOOXXXXXXOOOO",
-    ..CORRIDOR
-};
-
-/// Two points at which stones take each other for ever.
-pub(crate) const ENDLESS: Game = Game {
-    drawing: b".X.XXOO.O.XXXX..OOOOXXXXXOOOOO",
-    ..CORRIDOR
-};
-
-/// A board of one point.
-pub(crate) const ONE_POINT: Game = Game {
-    columns: 1,
-    rows: 1,
-    drawing: b".",
-    ..ONE_OPEN
-};
-
-/// A board without stones.
-const EMPTY: Game = Game {
-    columns: 6,
-    rows: 6,
-    drawing: b"",
-    ..ONE_OPEN
-};
-
-pub(crate) const LIMITS: Limits = Limits {
-    positions: 100_000,
-    parts: 500,
-    tax: false,
-};
-
-/// The position of a game, or `None` where its board isn't settled or its komi is too great.
-pub(crate) fn setup(alloc: Global, game: Game) -> Result<Option<Setup>, AllocError>
-    ensures settled { IfOk result (λ setup. IfSome setup (λ s. IsSettled s.board)) }
-    ensures black { IfOk result (λ setup. IfSome setup (λ s. s.black_prisoners < 2 ^ 40)) }
-    ensures white { IfOk result (λ setup. IfSome setup (λ s. s.white_prisoners < 2 ^ 40)) }
-    ensures komi { IfOk result (λ setup. IfSome setup (λ s. unsigned_abs s.komi_halves ≤ 2000000)) }
-{
-    if game.komi.unsigned_abs() > 2_000_000 {
-        return Ok(None);
-    }
-    let board = board(alloc, game.columns, game.rows, game.drawing)?;
-    if board.unsettled()?.is_some() {
-        return Ok(None);
-    }
-    Ok(Some(Setup {
-        board,
-        black_prisoners: 0,
-        white_prisoners: 0,
-        komi_halves: game.komi,
-        side: game.side,
-    }))
-}
-
-/// The solved game, or want of memory where there is no position or a tax.
-pub(crate) fn begin<L: Ledger>(
-    alloc: Global,
-    blank: Blank,
-    game: Game,
-    limits: Limits,
-) -> Result<Solved, SolveError>
-    requires name { blank.name ≡ L.name }
-    requires parts { blank.parts ≡ L.parts }
-    requires some { 0 < blank.parts }
-{
-    let Some(setup) = setup(alloc, game)? else {
-        return Err(SolveError::Memory(AllocError));
-    };
-    if limits.positions > 1_000_000 || limits.tax {
-        return Err(SolveError::Memory(AllocError));
-    }
-    Solved::begin(alloc, &setup, &limits, &mut Steps::<L>::new(blank))
-}
+use std::alloc::Global;
+use whole_rules::{Move, MoveError};
 
 /// The lowest point of the first region and how many points and positions it has, where there is one.
 fn first_region(solved: &Solved) -> Option<(u16, u16, u64)> {
@@ -193,35 +71,27 @@ fn ask_all(solved: &mut Solved) -> Answers {
     }
 }
 
-/// The answers of a game, or want of memory where there is no position.
-pub(crate) fn answers_of<L: Ledger>(
-    alloc: Global,
-    blank: Blank,
-    game: Game,
-) -> Result<Answers, SolveError>
-    requires name { blank.name ≡ L.name }
-    requires parts { blank.parts ≡ L.parts }
-    requires some { 0 < blank.parts }
-{
-    let mut solved = begin::<L>(alloc, blank, game, LIMITS)?;
-    Ok(ask_all(&mut solved))
+/// The answers of a game, if it is solved.
+pub(crate) fn answers_of(alloc: Global, game: Game) -> Option<Answers> {
+    match begun(alloc, game, LIMITS) {
+        Ok(mut solved) => Some(ask_all(&mut solved)),
+        Err(_fault) => None,
+    }
 }
 
-/// Why a game isn't solved within the limits, if it isn't.
-fn refusal<L: Ledger>(alloc: Global, blank: Blank, game: Game, limits: Limits) -> Option<SolveError>
-    requires name { blank.name ≡ L.name }
-    requires parts { blank.parts ≡ L.parts }
-    requires some { 0 < blank.parts }
-{
-    match begin::<L>(alloc, blank, game, limits) {
-        Ok(_solved) => None,
-        Err(fault) => Some(fault),
+/// A stone at the point of this number.
+pub(crate) fn stone_at(number: Option<u16>) -> Option<Move> {
+    match number {
+        Some(number) => Some(Move::Stone(Point(number))),
+        None => None,
     }
 }
 
 /// A game, the side to move, its one region (its lowest point, its points, its positions), the winner and the point of
 /// the first winning move.
-const SOLVED: [(Game, Colour, (u16, u16, u64), Colour, Option<u16>); 8] = [
+type Known = (Game, Colour, (u16, u16, u64), Colour, Option<u16>);
+
+static SOLVED: [Known; 8] = [
     (ONE_OPEN, Colour::Black, (4, 1, 3), Colour::Black, Some(4)),
     (ONE_OPEN, Colour::White, (4, 1, 3), Colour::White, Some(4)),
     (TWO_OPEN, Colour::Black, (4, 2, 9), Colour::White, None),
@@ -244,31 +114,43 @@ const SOLVED: [(Game, Colour, (u16, u16, u64), Colour, Option<u16>); 8] = [
     (ONE_POINT, Colour::Black, (0, 1, 1), Colour::White, None),
 ];
 
-#[test]
-fn games(rt: HostRuntime) -> Result<(), SolveError> {
-    for (at, (game, side, region, winner, stone)) in SOLVED.into_iter().enumerate() {
-        let game = Game { side, ..game };
-        let chosen = match stone {
-            Some(number) => Some(Move::Stone(Point(number))),
-            None => None,
-        };
-        let answers = answers_of::<Brand>(rt.alloc(), Blank::new(1), game)?;
-        assert_eq!(rt;
-            (answers.regions, answers.first),
-            (1, Some(region)),
-            "at {at}"
-        );
-        assert_eq!(rt;
-            (answers.winner, answers.chosen),
-            (winner, chosen),
-            "at {at}"
-        );
+/// Whether the answers are those of a row.
+fn are_answers(answers: &Answers, row: &Known) -> bool {
+    answers.regions == 1
+        && answers.first == Some(row.2)
+        && answers.winner == row.3
+        && answers.chosen == stone_at(row.4)
+}
+
+/// Whether a game has the answers of its row.
+fn is_known(alloc: Global, row: &Known) -> bool {
+    let game = Game {
+        side: row.1,
+        ..row.0
+    };
+    match answers_of(alloc, game) {
+        Some(answers) => are_answers(&answers, row),
+        None => false,
     }
-    Ok(())
+}
+
+/// The first of the games with other answers.
+fn wrong_game(alloc: Global) -> Option<usize> {
+    for (at, row) in SOLVED.iter().enumerate() {
+        if !is_known(alloc, row) {
+            return Some(at);
+        }
+    }
+    None
+}
+
+#[test]
+fn games(rt: HostRuntime) {
+    assert_eq!(rt; wrong_game(rt.alloc()), None);
 }
 
 /// How a game is refused.
-#[derive(Clone, Copy, Debug, PartialEq, Eq)]
+#[derive(Clone, Copy)]
 enum Refused {
     Not,
     Points(u16),
@@ -276,24 +158,34 @@ enum Refused {
     /// For a cycle of two moves behind the first position that comes again.
     ShortCycle,
     Form,
-    Otherwise,
 }
 
-/// How a game is refused for this.
-fn refused_for(refusal: Option<SolveError>) -> Refused {
-    match refusal {
-        None => Refused::Not,
-        Some(SolveError::Points(_, points)) => Refused::Points(points),
-        Some(SolveError::Positions(_)) => Refused::Positions,
-        Some(SolveError::Cycle(_, names, back))
-            if names.as_slice().len() == back.saturating_add(2) => { Refused::ShortCycle }
-        Some(SolveError::Form(_)) => Refused::Form,
-        Some(_) => Refused::Otherwise,
+/// Whether a game with so many points in a region is refused for them.
+fn has_points(refused: Refused, points: u16) -> bool {
+    match refused {
+        Refused::Points(wanted) => points == wanted,
+        _ => false,
+    }
+}
+
+/// Whether a game is refused so for this.
+fn is_refused_for(fault: &SolveError, refused: Refused) -> bool {
+    match fault {
+        SolveError::Points(_, points) => has_points(refused, *points),
+        SolveError::Positions(_) => matches!(refused, Refused::Positions),
+        SolveError::Cycle(_, names, back) => {
+            matches!(refused, Refused::ShortCycle)
+                && names.as_slice().len() == back.saturating_add(2)
+        }
+        SolveError::Form(_) => matches!(refused, Refused::Form),
+        _ => false,
     }
 }
 
 /// A game, the most positions of a region and the most parts of a form, and how it is refused.
-const REFUSALS: [(Game, u32, u32, Refused); 6] = [
+type Refusal = (Game, u32, u32, Refused);
+
+static REFUSALS: [Refusal; 6] = [
     (TWO_OPEN, 8, 500, Refused::Positions),
     (TWO_OPEN, 9, 500, Refused::Not),
     (CORRIDOR, 100_000, 1, Refused::Form),
@@ -302,26 +194,44 @@ const REFUSALS: [(Game, u32, u32, Refused); 6] = [
     (EMPTY, 100_000, 500, Refused::Points(36)),
 ];
 
-#[test]
-fn refusals(rt: HostRuntime) {
-    for (at, (game, positions, parts, refused)) in REFUSALS.into_iter().enumerate() {
-        let limits = Limits {
-            positions,
-            parts,
-            tax: false,
-        };
-        let refusal = refusal::<Brand>(rt.alloc(), Blank::new(1), game, limits);
-        assert_eq!(rt; refused_for(refusal), refused, "at {at}");
+/// Whether a row is so.
+fn is_refused(alloc: Global, row: &Refusal) -> bool {
+    let limits = Limits {
+        positions: row.1,
+        parts: row.2,
+        tax: false,
+    };
+    match begun(alloc, row.0, limits) {
+        Ok(_solved) => matches!(row.3, Refused::Not),
+        Err(fault) => is_refused_for(&fault, row.3),
     }
 }
 
-/// Whether a game with one open point goes on as it must when moves are played in it: two that are refused, and the one at
-/// the point.
+/// The first row that isn't so.
+fn wrong_refusal(alloc: Global) -> Option<usize> {
+    for (at, row) in REFUSALS.iter().enumerate() {
+        if !is_refused(alloc, row) {
+            return Some(at);
+        }
+    }
+    None
+}
+
+#[test]
+fn refusals(rt: HostRuntime) {
+    assert_eq!(rt; wrong_refusal(rt.alloc()), None);
+}
+
+/// Whether a game with one open point refuses two moves.
+fn refuses(solved: &mut Solved) -> bool {
+    solved.play(Move::Stone(Point(0))) == Err(MoveError::NotContested)
+        && solved.play(Move::Half) == Err(MoveError::NoHalf)
+}
+
+/// Whether it goes on as it must: nothing is left where a stone was put at the point.
 fn goes_on(solved: &mut Solved) -> bool {
-    let refused = [solved.play(Move::Stone(Point(0))), solved.play(Move::Half)];
     is_star(solved)
         && solved.balance().units() == 0
-        && refused == [Err(MoveError::NotContested), Err(MoveError::NoHalf)]
         && solved.play(Move::Stone(Point(4))) == Ok(())
         && is_nought(solved)
         && solved.balance().units() == 0
@@ -334,9 +244,15 @@ fn is_over(solved: &mut Solved) -> bool {
         && solved.play(Move::Stone(Point(4))) == Err(MoveError::Occupied)
 }
 
+/// Whether the game is played so.
+fn is_played(alloc: Global) -> bool {
+    match begun(alloc, ONE_OPEN, LIMITS) {
+        Ok(mut solved) => refuses(&mut solved) && goes_on(&mut solved) && is_over(&mut solved),
+        Err(_fault) => false,
+    }
+}
+
 #[test]
-fn played(rt: HostRuntime) -> Result<(), SolveError> {
-    let mut solved = begin::<Brand>(rt.alloc(), Blank::new(1), ONE_OPEN, LIMITS)?;
-    assert!(rt; goes_on(&mut solved) && is_over(&mut solved));
-    Ok(())
+fn played(rt: HostRuntime) {
+    assert!(rt; is_played(rt.alloc()));
 }

@@ -1,9 +1,8 @@
 //! Games with a tax of two points for each group.
 
+use crate::endings::Ends;
 use crate::run_tests::TIE_TEXT;
 use crate::runs::{Row, first_wrong};
-use endgame_run::Status;
-use std::test::Fail;
 
 /// `.X.XO.O.OX.X.` / `XXXXOOOOOXXXX`: Black has two groups.
 const TWO_GROUPS: &[u8] = b"(;SZ[13:2]AB[ba][da][ab:db][ja][la][jb:mb]AW[ea][ga][ia][eb:ib])";
@@ -32,26 +31,25 @@ const LINKED_SAFE: &str = "chain ba black stones 1 alive\nchain da black stones 
     counted ea black points 1 held 1\ngroups black 1\ngroups white 0\n";
 
 /// Positions with and without the tax.
-const TAXED: [Row; 10] = [
-    ("solve~a~--tax~no", b"", Status::Done, TIE_TEXT),
-    ("solve~a~--tax~yes", b"", Status::Done, TAXED_TEXT),
-    ("solve~g~--tax~yes", b"", Status::Done, CAPTIVE_TEXT),
-    ("solve~-", TWO_GROUPS, Status::Done, UNTAXED_TEXT),
-    ("solve~-~--tax~yes", TWO_GROUPS, Status::Done, TAXED_TEXT),
-    ("solve~-~--tax~yes", LINKED, Status::Done, LINKED_TEXT),
+static TAXED: [Row; 10] = [
+    ("solve~a~--tax~no", b"", Ends::Done, TIE_TEXT),
+    ("solve~a~--tax~yes", b"", Ends::Done, TAXED_TEXT),
+    ("solve~g~--tax~yes", b"", Ends::Done, CAPTIVE_TEXT),
+    ("solve~-", TWO_GROUPS, Ends::Done, UNTAXED_TEXT),
+    ("solve~-~--tax~yes", TWO_GROUPS, Ends::Done, TAXED_TEXT),
+    ("solve~-~--tax~yes", LINKED, Ends::Done, LINKED_TEXT),
     (
         "play~c~--tax~yes",
         b"",
-        Status::Done,
+        Ends::Done,
         "engine ea\nwinner black\n",
     ),
-    ("safe~-", LINKED, Status::Done, LINKED_SAFE),
-    ("solve~a~--tax~2", b"", Status::Usage, "fault usage\n"),
-    ("safe~a~--tax~yes", b"", Status::Usage, "fault usage\n"),
+    ("safe~-", LINKED, Ends::Done, LINKED_SAFE),
+    ("solve~a~--tax~2", b"", Ends::Usage, "fault usage\n"),
+    ("safe~a~--tax~yes", b"", Ends::Usage, "fault usage\n"),
 ];
 
 #[test]
-fn groups_pay_at_the_start(rt: HostRuntime) -> Result<(), Fail> {
-    assert_eq!(rt; first_wrong(rt.alloc(), &TAXED)?, None);
-    Ok(())
+fn groups_pay_at_the_start(rt: HostRuntime) {
+    assert_eq!(rt; first_wrong(rt.alloc(), &TAXED), None);
 }

@@ -1,14 +1,15 @@
 //! Points that a file marks, with the option that declares them and without it, and the texts of declared points.
 
+ghost use Rattle.go_grid.specs.Chain.{IsSettled};
+
+use crate::endings::{Ends, Wrong};
+use crate::files::{TWICE, WALLS};
 use crate::run_tests::TIE_TEXT;
 use crate::runs::{Row, first_wrong};
 use drawings::declared_board;
-use endgame_run::Status;
-use go_grid::{Colour, Point};
+use go_grid::{Board, Colour};
 use report::{Terms, board_text, safe_text};
-use sgf_go::{FileFault, SetupFault};
-use std::alloc::{AllocError, Global};
-use std::test::Fail;
+use std::alloc::Global;
 
 /// `X.O..O.`: the three points behind Black's stone are marked for Black, and the next one for White.
 const MARKED: &[u8] = b"(;SZ[7:1]AB[aa]AW[ca][fa]TB[ba:da]TW[ea])";
@@ -16,48 +17,44 @@ const MARKED: &[u8] = b"(;SZ[7:1]AB[aa]AW[ca][fa]TB[ba:da]TW[ea])";
 const MARKED_BOARD: &str =
     "size 7 1\nside black\nkomi 0\nprisoners black 0\nprisoners white 0\nrow X.O..O.\n";
 
-/// A point is marked for both colours.
-pub(crate) const TWICE: &[u8] = b"(;SZ[3]TB[aa:ba]TW[ba])";
-
 const TWICE_SAFE: &str = "groups black 0\ngroups white 0\nregion aa points 9\n";
 
 /// Marks that aren't asked for, files without marks, and words in and outside the grammar.
-const UNMARKED: [Row; 9] = [
-    ("board~-", MARKED, Status::Done, MARKED_BOARD),
-    ("board~-~--territory~no", MARKED, Status::Done, MARKED_BOARD),
-    ("safe~-", TWICE, Status::Done, TWICE_SAFE),
-    ("solve~a~--territory~yes", b"", Status::Done, TIE_TEXT),
+static UNMARKED: [Row; 9] = [
+    ("board~-", MARKED, Ends::Done, MARKED_BOARD),
+    ("board~-~--territory~no", MARKED, Ends::Done, MARKED_BOARD),
+    ("safe~-", TWICE, Ends::Done, TWICE_SAFE),
+    ("solve~a~--territory~yes", b"", Ends::Done, TIE_TEXT),
     (
         "solve~a~--territory~yes~--tax~no",
         b"",
-        Status::Done,
+        Ends::Done,
         TIE_TEXT,
     ),
     (
         "solve~a~--territory~yes~--tax~yes",
         b"",
-        Status::Usage,
+        Ends::Usage,
         "fault usage\n",
     ),
-    ("safe~a~--territory~2", b"", Status::Usage, "fault usage\n"),
+    ("safe~a~--territory~2", b"", Ends::Usage, "fault usage\n"),
     (
         "gtp~--territory~yes",
         b"loadsgf c\ngenmove b\n",
-        Status::Done,
+        Ends::Done,
         "= \n\n= E2\n\n",
     ),
     (
         "gtp~--tax~no~--territory~yes",
         b"",
-        Status::Usage,
+        Ends::Usage,
         "fault usage\n",
     ),
 ];
 
 #[test]
-fn declares_what_is_asked_for(rt: HostRuntime) -> Result<(), Fail> {
-    assert_eq!(rt; first_wrong(rt.alloc(), &UNMARKED)?, None);
-    Ok(())
+fn declares_what_is_asked_for(rt: HostRuntime) {
+    assert_eq!(rt; first_wrong(rt.alloc(), &UNMARKED), None);
 }
 
 const SEALED_BOARD: &str =
@@ -76,70 +73,62 @@ const WHOLE_TEXT: &str =
     "side black\npurse black 9\npurse white 0\nhalf none\nregions 0\npositions 0\n\
     winner black\nmove spend\n";
 
-/// Two walls of settled points around a corridor of three.
-pub(crate) const WALLS: &[u8] = b"(;SZ[7:3]AB[ca:cc]AW[ea:ec]TB[aa:bc]TW[fa:gc])";
-
 /// Files with marks that are asked for.
-const SEALED: [Row; 11] = [
-    (
-        "board~-~--territory~yes",
-        MARKED,
-        Status::Done,
-        SEALED_BOARD,
-    ),
+static SEALED: [Row; 11] = [
+    ("board~-~--territory~yes", MARKED, Ends::Done, SEALED_BOARD),
     (
         "board~-~--territory~yes~--white-prisoners~2",
         TOUCHING,
-        Status::Done,
+        Ends::Done,
         TOUCHING_BOARD,
     ),
     (
         "safe~-~--territory~yes",
         TOUCHING,
-        Status::Done,
+        Ends::Done,
         TOUCHING_SAFE,
     ),
     (
         "solve~-~--territory~yes",
         b"(;SZ[3]TB[aa:cc])",
-        Status::Done,
+        Ends::Done,
         WHOLE_TEXT,
     ),
     (
         "safe~-~--territory~yes",
         TWICE,
-        Status::BadFile(FileFault::Setup(SetupFault::MarkedTwice(Point(1)))),
+        Ends::BadSetup(Wrong::MarkedTwice(1)),
         "fault file marked twice at ba\n",
     ),
     (
         "solve~-~--territory~yes",
         b"(;SZ[3:1]AW[aa]TB[ba])",
-        Status::BadFile(FileFault::Setup(SetupFault::NoLiberty(Point(0)))),
+        Ends::BadSetup(Wrong::NoLiberty(0)),
         "fault file no liberty at aa\n",
     ),
     (
         "line~-~--territory~yes",
         WALLS,
-        Status::Done,
+        Ends::Done,
         "side black\nkomi 0\nwinner black\nthreshold 0\nline 1 black:da\n",
     ),
     (
         "margin~-~--territory~yes",
         WALLS,
-        Status::Done,
+        Ends::Done,
         "side black\nkomi 0\nwinner black\nblack first 0\nwhite first -0.5\n",
     ),
     (
         "moves~-~--territory~yes",
         WALLS,
-        Status::Done,
+        Ends::Done,
         "side black\nkomi 0\nwinner black\nstone da wins 0\nstone db wins 0\nstone dc wins 0\n\
         spend loses\n",
     ),
     (
         "values~-~--territory~yes",
         b"(;SZ[7:3]AB[ca:cc]AW[ea:ec][ab]TB[aa:bc]TW[fa:gc])",
-        Status::Done,
+        Ends::Done,
         "regions 1\nregion da points 3 positions 27\nvalue *\nstops 0 0\nmean 0\ntemperature 0\n\
         left 0:0\nright 0:0\n",
     ),
@@ -147,15 +136,14 @@ const SEALED: [Row; 11] = [
         "gtp~--territory~yes",
         b"loadsgf walls\ngenmove b\nplay w a1\nplay w d2\nloadsgf twice\nloadsgf walls 1\nplay w pass\n\
         boardsize 1\ngenmove b\nquit\n",
-        Status::Done,
+        Ends::Done,
         "= \n\n= D3\n\n? illegal move\n\n= \n\n? cannot load file\n\n= \n\n= \n\n= \n\n= resign\n\n= \n\n",
     ),
 ];
 
 #[test]
-fn declares_the_marks(rt: HostRuntime) -> Result<(), Fail> {
-    assert_eq!(rt; first_wrong(rt.alloc(), &SEALED)?, None);
-    Ok(())
+fn declares_the_marks(rt: HostRuntime) {
+    assert_eq!(rt; first_wrong(rt.alloc(), &SEALED), None);
 }
 
 const TERMS: Terms = Terms {
@@ -165,8 +153,11 @@ const TERMS: Terms = Terms {
     white_prisoners: 1,
 };
 
-/// Drawings of so many columns and rows, and the text of `board`.
-const BOARDS: [(u8, u8, &[u8], &str); 2] = [
+/// Columns and rows of a drawing, and a text of the board that it shows.
+type Drawn = (u8, u8, &'static [u8], &'static str);
+
+/// Texts of `board`.
+static BOARDS: [Drawn; 2] = [
     (
         7,
         1,
@@ -181,25 +172,39 @@ const BOARDS: [(u8, u8, &[u8], &str); 2] = [
     ),
 ];
 
+/// Whether `board` writes this.
+fn has_board_text(alloc: Global, board: &Board, wanted: &str) -> bool {
+    match board_text(alloc, board, TERMS) {
+        Ok(text) => text.as_slice() == wanted.as_bytes(),
+        Err(_error) => false,
+    }
+}
+
+/// Whether `board` writes so of a drawing.
+fn is_board(alloc: Global, row: &Drawn) -> bool {
+    match declared_board(alloc, row.0, row.1, row.2) {
+        Ok(board) => has_board_text(alloc, &board, row.3),
+        Err(_error) => false,
+    }
+}
+
 /// The first drawing of which `board` writes another text.
-fn first_wrong_board(alloc: Global) -> Result<Option<usize>, AllocError> {
-    for (at, (columns, rows, drawing, text)) in BOARDS.iter().enumerate() {
-        let board = declared_board(alloc, *columns, *rows, drawing)?;
-        if board_text(alloc, &board, TERMS)?.as_slice() != text.as_bytes() {
-            return Ok(Some(at));
+fn first_wrong_board(alloc: Global) -> Option<usize> {
+    for (at, row) in BOARDS.iter().enumerate() {
+        if !is_board(alloc, row) {
+            return Some(at);
         }
     }
-    Ok(None)
+    None
 }
 
 #[test]
-fn declared_points_have_letters(rt: HostRuntime) -> Result<(), Fail> {
-    assert_eq!(rt; first_wrong_board(rt.alloc())?, None);
-    Ok(())
+fn declared_points_have_letters(rt: HostRuntime) {
+    assert_eq!(rt; first_wrong_board(rt.alloc()), None);
 }
 
-/// Drawings of so many columns and rows, and the text of `safe`.
-const CHAINS: [(u8, u8, &[u8], &str); 3] = [
+/// Texts of `safe`.
+static CHAINS: [Drawn; 3] = [
     (
         5,
         1,
@@ -223,22 +228,43 @@ const CHAINS: [(u8, u8, &[u8], &str); 3] = [
     ),
 ];
 
+/// Whether `safe` writes this of a board whose declared points are closed off.
+fn is_safe_text(alloc: Global, board: &Board, wanted: &str) -> bool
+    requires { IsSettled board.now }
+{
+    match safe_text(alloc, board) {
+        Ok(text) => text.as_slice() == wanted.as_bytes(),
+        Err(_error) => false,
+    }
+}
+
+/// Whether the board's declared points are closed off, and `safe` writes this of it.
+fn has_safe_text(alloc: Global, board: &Board, wanted: &str) -> bool {
+    match board.unsettled() {
+        Ok(None) => is_safe_text(alloc, board, wanted),
+        _ => false,
+    }
+}
+
+/// Whether `safe` writes so of a drawing.
+fn are_chains(alloc: Global, row: &Drawn) -> bool {
+    match declared_board(alloc, row.0, row.1, row.2) {
+        Ok(board) => has_safe_text(alloc, &board, row.3),
+        Err(_error) => false,
+    }
+}
+
 /// The first drawing of which `safe` writes another text, or one whose declared points aren't closed off.
-fn first_wrong_chains(alloc: Global) -> Result<Option<usize>, AllocError> {
-    for (at, (columns, rows, drawing, text)) in CHAINS.iter().enumerate() {
-        let board = declared_board(alloc, *columns, *rows, drawing)?;
-        if board.unsettled()?.is_some() {
-            return Ok(Some(at));
-        }
-        if safe_text(alloc, &board)?.as_slice() != text.as_bytes() {
-            return Ok(Some(at));
+fn first_wrong_chains(alloc: Global) -> Option<usize> {
+    for (at, row) in CHAINS.iter().enumerate() {
+        if !are_chains(alloc, row) {
+            return Some(at);
         }
     }
-    Ok(None)
+    None
 }
 
 #[test]
-fn declared_points_are_counted(rt: HostRuntime) -> Result<(), Fail> {
-    assert_eq!(rt; first_wrong_chains(rt.alloc())?, None);
-    Ok(())
+fn declared_points_are_counted(rt: HostRuntime) {
+    assert_eq!(rt; first_wrong_chains(rt.alloc()), None);
 }

@@ -1,12 +1,12 @@
 //! What the program has to say is out before the opponent's next line is waited for.
 
-use crate::runs::{NEVER, shelf, status_of, words_between};
-use desk_io::{Failed, Sink, Source};
-use endgame_run::Status;
+use crate::endings::{Ends, is_ended};
+use crate::files::shelf;
+use crate::runs::{NEVER, status_of, words_between};
+use desk_io::{Failed, MemoryShelf, Sink, Source};
 use std::alloc::{AllocError, Global};
 use std::cell::Cell;
 use std::rc::Rc;
-use std::test::Fail;
 
 /// What is written before a line of the opponent's is read, and that line.
 type Exchange = (&'static str, &'static str);
@@ -65,7 +65,9 @@ impl Sink for Hearer {
 }
 
 /// Words, exchanges, the last of them with the end of the input, and what is written behind them.
-const TALKS: [(&str, &[Exchange], &str); 3] = [
+type Talk = (&'static str, &'static [Exchange], &'static str);
+
+static TALKS: [Talk; 3] = [
     (
         "play~c",
         &[
@@ -97,43 +99,96 @@ const TALKS: [(&str, &[Exchange], &str); 3] = [
     ),
 ];
 
-/// Whether the run ends well, has read each line only behind what comes before it, and writes as much.
-fn is_in_turn(
-    alloc: Global,
-    words: &str,
+/// An opponent who has given no line.
+fn new_opponent(
+    out: &Rc<Cell<usize>>,
     exchanges: &'static [Exchange],
-    last: &str,
-) -> Result<bool, AllocError> {
-    let words = words_between(alloc, words)?;
-    let mut shelf = shelf(alloc, NEVER)?;
-    let out = Rc::new(alloc, Cell::new(0))?;
-    let mut opponent = Opponent {
-        out: Rc::clone(&out)?,
+) -> Result<Opponent, AllocError> {
+    Ok(Opponent {
+        out: Rc::clone(out)?,
         exchanges,
         given: 0,
         due: 0,
-    };
-    let mut hearer = Hearer {
-        out: Rc::clone(&out)?,
-    };
-    let status = status_of(
-        alloc,
-        words.as_slice(),
-        &mut shelf,
-        &mut opponent,
-        &mut hearer,
-    );
-    Ok(
-        status == Status::Done
-            && opponent.given == exchanges.len()
-            && out.get() == opponent.due.saturating_add(last.len()),
-    )
+    })
+}
+
+/// Whether the run ends well, has read each line only behind what comes before it, and writes as much.
+fn is_heard(
+    alloc: Global,
+    words: &[&str],
+    shelf: &mut MemoryShelf,
+    opponent: &mut Opponent,
+    hearer: &mut Hearer,
+    last: &str,
+) -> bool {
+    is_ended(status_of(alloc, words, shelf, opponent, hearer), Ends::Done)
+        && opponent.given == opponent.exchanges.len()
+        && hearer.out.get() == opponent.due.saturating_add(last.len())
+}
+
+/// The same with a hearer of its own.
+fn is_answered(
+    alloc: Global,
+    words: &[&str],
+    shelf: &mut MemoryShelf,
+    opponent: &mut Opponent,
+    last: &str,
+) -> bool {
+    match Rc::clone(&opponent.out) {
+        Ok(out) => is_heard(alloc, words, shelf, opponent, &mut Hearer { out }, last),
+        Err(_error) => false,
+    }
+}
+
+/// The same with an opponent of its own.
+fn is_talk(
+    alloc: Global,
+    words: &[&str],
+    shelf: &mut MemoryShelf,
+    out: &Rc<Cell<usize>>,
+    row: &Talk,
+) -> bool {
+    match new_opponent(out, row.1) {
+        Ok(mut opponent) => is_answered(alloc, words, shelf, &mut opponent, row.2),
+        Err(_error) => false,
+    }
+}
+
+/// The same with a count of its own.
+fn is_counted(alloc: Global, words: &[&str], shelf: &mut MemoryShelf, row: &Talk) -> bool {
+    match Rc::new(alloc, Cell::new(0)) {
+        Ok(out) => is_talk(alloc, words, shelf, &out, row),
+        Err(_error) => false,
+    }
+}
+
+/// The same for the words of a row.
+fn is_in_turn(alloc: Global, shelf: &mut MemoryShelf, row: &Talk) -> bool {
+    match words_between(alloc, row.0) {
+        Ok(words) => is_counted(alloc, &words, shelf, row),
+        Err(_error) => false,
+    }
+}
+
+/// The first row that isn't so, over a shelf that each run only reads.
+fn first_wrong(alloc: Global, shelf: &mut MemoryShelf) -> Option<usize> {
+    for (at, row) in TALKS.iter().enumerate() {
+        if !is_in_turn(alloc, shelf, row) {
+            return Some(at);
+        }
+    }
+    None
+}
+
+/// The same over the shelf of the tests; the first row where there is no memory for it.
+fn wrong_talk(alloc: Global) -> Option<usize> {
+    match shelf(alloc, NEVER) {
+        Ok(mut shelf) => first_wrong(alloc, &mut shelf),
+        Err(_error) => Some(0),
+    }
 }
 
 #[test]
-fn each_answer_is_out_before_the_next_read(rt: HostRuntime) -> Result<(), Fail> {
-    for (words, exchanges, last) in TALKS {
-        assert!(rt; is_in_turn(rt.alloc(), words, exchanges, last)?, "{words}");
-    }
-    Ok(())
+fn each_answer_is_out_before_the_next_read(rt: HostRuntime) {
+    assert_eq!(rt; wrong_talk(rt.alloc()), None);
 }

@@ -1,8 +1,7 @@
 //! The values of files.
 
+use crate::endings::Ends;
 use crate::runs::{Row, first_wrong};
-use endgame_run::Status;
-use std::test::Fail;
 
 /// Two points that are worth nothing to who moves first.
 const NOTHING: &str =
@@ -30,41 +29,35 @@ const SINGLE: &str =
     left 0:0\nright 0:0\n";
 
 /// Values of the regions of files.
-const VALUES: [Row; 10] = [
-    ("values~a", b"", Status::Done, "regions 0\n"),
-    ("values~b", b"", Status::Done, NOTHING),
-    ("values~d", b"", Status::Done, CORRIDOR),
-    (
-        "values~d~--parts~2~--turn~white",
-        b"",
-        Status::Done,
-        CORRIDOR,
-    ),
-    ("values~visited", b"", Status::Done, VISITED),
-    ("values~f", b"", Status::Done, LONG_CORRIDOR),
-    ("values~-", b"(;SZ[1])", Status::Done, SINGLE),
+static VALUES: [Row; 10] = [
+    ("values~a", b"", Ends::Done, "regions 0\n"),
+    ("values~b", b"", Ends::Done, NOTHING),
+    ("values~d", b"", Ends::Done, CORRIDOR),
+    ("values~d~--parts~2~--turn~white", b"", Ends::Done, CORRIDOR),
+    ("values~visited", b"", Ends::Done, VISITED),
+    ("values~f", b"", Ends::Done, LONG_CORRIDOR),
+    ("values~-", b"(;SZ[1])", Ends::Done, SINGLE),
     (
         "values~b~--positions~8",
         b"",
-        Status::RegionLimit,
+        Ends::RegionLimit,
         "fault region ea positions over 8\n",
     ),
     (
         "values~d~--parts~1",
         b"",
-        Status::FormLimit,
+        Ends::FormLimit,
         "fault form eb\n",
     ),
     (
         "values~e",
         b"",
-        Status::Cycle,
+        Ends::Cycle,
         "fault cycle eb 1 black:fb white:eb black:fb\n",
     ),
 ];
 
 #[test]
-fn values_of_files(rt: HostRuntime) -> Result<(), Fail> {
-    assert_eq!(rt; first_wrong(rt.alloc(), &VALUES)?, None);
-    Ok(())
+fn values_of_files(rt: HostRuntime) {
+    assert_eq!(rt; first_wrong(rt.alloc(), &VALUES), None);
 }
