@@ -41,9 +41,17 @@ fn begin<L: Ledger>(
     }
 }
 
+/// What a game is begun as: solved, or refused. As a value of this crate its drop is one call.
+#[derive(Drop)]
+pub(crate) struct CycleOpened {
+    pub result: Result<CycleGame, CycleError>,
+}
+
 /// The game with at most 32 captures that return in a region.
-pub(crate) fn begun(alloc: Global, game: Game, limits: Limits) -> Result<CycleGame, CycleError> {
-    begin::<Brand>(alloc, Blank::new(1), game, limits, 32)
+pub(crate) fn begun(alloc: Global, game: Game, limits: Limits) -> CycleOpened {
+    CycleOpened {
+        result: begin::<Brand>(alloc, Blank::new(1), game, limits, 32),
+    }
 }
 
 /// A game with its komi in half-points, its winner, the winner's captures, and the point of the first winning move.
@@ -63,16 +71,21 @@ fn answers(solved: &mut CycleGame, row: &Won) -> bool {
         && solved.winning_move() == stone_at(row.4)
 }
 
+/// Whether a game that was begun has these answers.
+fn has_answers(opened: &mut CycleOpened, row: &Won) -> bool {
+    match &mut opened.result {
+        Ok(solved) => answers(solved, row),
+        Err(_) => false,
+    }
+}
+
 /// Whether a game has these answers.
 fn is_won(alloc: Global, row: &Won) -> bool {
     let game = Game {
         komi: row.1,
         ..row.0
     };
-    match begun(alloc, game, LIMITS) {
-        Ok(mut solved) => answers(&mut solved, row),
-        Err(_fault) => false,
-    }
+    has_answers(&mut begun(alloc, game, LIMITS), row)
 }
 
 /// The first of the games with other answers.
@@ -126,27 +139,23 @@ fn has_winners(solved: &mut CycleGame) -> bool {
 }
 
 /// Whether all of these are.
-fn are_moves_right(alloc: Global) -> bool {
-    match begun(alloc, ENDLESS, LIMITS) {
-        Ok(mut solved) => {
-            has_thresholds(&mut solved)
-                && has_stone_thresholds(&mut solved)
-                && has_winners(&mut solved)
-        }
-        Err(_fault) => false,
+fn are_moves_right(opened: &mut CycleOpened) -> bool {
+    match &mut opened.result {
+        Ok(solved) => has_thresholds(solved) && has_stone_thresholds(solved) && has_winners(solved),
+        Err(_) => false,
     }
 }
 
 #[test]
 fn moves_with_cycles(rt: HostRuntime) {
-    assert!(rt; are_moves_right(rt.alloc()));
+    assert!(rt; are_moves_right(&mut begun(rt.alloc(), ENDLESS, LIMITS)));
 }
 
-/// Whether a game isn't solved within the limits, for the positions of the region of this point.
-fn has_too_many(alloc: Global, game: Game, limits: Limits, point: u16) -> bool {
-    match begun(alloc, game, limits) {
-        Ok(_solved) => false,
-        Err(fault) => fault == CycleError::Positions(Point(point)),
+/// Whether a game wasn't solved within the limits, for the positions of the region of this point.
+fn has_too_many(opened: &CycleOpened, point: u16) -> bool {
+    match &opened.result {
+        Ok(_) => false,
+        Err(fault) => *fault == CycleError::Positions(Point(point)),
     }
 }
 
@@ -156,5 +165,5 @@ fn too_many_positions(rt: HostRuntime) {
         positions: 7,
         ..LIMITS
     };
-    assert!(rt; has_too_many(rt.alloc(), ENDLESS, limits, 14));
+    assert!(rt; has_too_many(&begun(rt.alloc(), ENDLESS, limits), 14));
 }

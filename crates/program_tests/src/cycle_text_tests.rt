@@ -1,6 +1,6 @@
 //! The texts of games in which kos can arise.
 
-use crate::cycle_game_tests::begun;
+use crate::cycle_game_tests::{CycleOpened, begun};
 use crate::worked_games::{ENDLESS, Game, LIMITS, ONE_OPEN};
 use cycle_solver::CycleGame;
 use fault_words::Naming;
@@ -110,6 +110,14 @@ fn has_texts(alloc: Global, game: &mut CycleGame, row: &Texts) -> bool {
         && has_moves(alloc, game, row.1, row.5)
 }
 
+/// Whether the three texts of a game that was begun are.
+fn are_told(alloc: Global, opened: &mut CycleOpened, row: &Texts) -> bool {
+    match &mut opened.result {
+        Ok(solved) => has_texts(alloc, solved, row),
+        Err(_) => false,
+    }
+}
+
 /// Whether a row is so.
 fn is_told(alloc: Global, row: &Texts) -> bool {
     let game = Game {
@@ -117,10 +125,7 @@ fn is_told(alloc: Global, row: &Texts) -> bool {
         side: row.2,
         ..row.0
     };
-    match begun(alloc, game, LIMITS) {
-        Ok(mut solved) => has_texts(alloc, &mut solved, row),
-        Err(_fault) => false,
-    }
+    are_told(alloc, &mut begun(alloc, game, LIMITS), row)
 }
 
 /// The first row that isn't so.

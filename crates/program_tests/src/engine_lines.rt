@@ -1,21 +1,14 @@
 //! Sessions of the engine against every line of the opponent's.
 
-use crate::engine_rooms::{LIMITS, end_of, room};
-use crate::runs::{NOTHING_FAILS, Outside};
-use gtp_engine::Engine;
+use crate::engine_rooms::{end_of, open_room};
+use crate::runs::NOTHING_FAILS;
 use std::alloc::{AllocError, Global};
 
-/// Whether a session of a new engine writes so at its end, or want of memory.
-fn writes_last(alloc: Global, outside: &mut Outside, last: &[u8]) -> Result<bool, AllocError> {
-    let mut engine = Engine::new(alloc, LIMITS)?;
-    let _end = end_of(&mut engine, outside);
-    Ok(outside.out.written().ends_with(last))
-}
-
-/// The same of a session over lines.
+/// Whether a session over lines writes so at its end, or want of memory.
 fn is_last(alloc: Global, lines: &[u8], last: &[u8]) -> Result<bool, AllocError> {
-    let mut outside = room(alloc, lines, 500, NOTHING_FAILS)?;
-    writes_last(alloc, &mut outside, last)
+    let mut room = open_room(alloc, lines, 500, NOTHING_FAILS)?;
+    let _end = end_of(&mut room);
+    Ok(room.outside.out.written().ends_with(last))
 }
 
 /// Appends a line, made of parts.

@@ -1,4 +1,4 @@
-//! Shelves, sources and sinks for sessions of the engine.
+//! The engine with a shelf, a source and a sink in memory.
 
 ghost use Rattle.std.specs.Prelude.{◌≡◌, ◌<◌, ◌≤◌};
 
@@ -19,7 +19,7 @@ const CORRIDOR: &[u8] =
 const ATARI: &[u8] = b"(;SZ[10:5]KM[-0.5]AB[ba][da:fa][ab:db][ac:fc][ad:fd][hd:id][ae:fe]\
     AW[ga][ia][eb][gb:jb][gc:jc][jd][ge:je])";
 
-pub(crate) const LIMITS: EngineLimits = EngineLimits {
+const LIMITS: EngineLimits = EngineLimits {
     positions: 100_000,
     parts: 500,
     territory: false,
@@ -42,7 +42,7 @@ fn shelf(alloc: Global, failing: u64) -> Result<MemoryShelf, AllocError> {
 }
 
 /// That shelf, a source that gives these lines in pieces of a size, and a sink.
-pub(crate) fn room(
+fn outside_of(
     alloc: Global,
     text: &[u8],
     piece: usize,
@@ -56,21 +56,42 @@ pub(crate) fn room(
     Ok(Outside { shelf, lines, out })
 }
 
+/// An engine and the outside of its session.
+#[derive(Drop)]
+pub(crate) struct Room {
+    pub engine: Engine,
+    pub outside: Outside,
+}
+
+/// A new engine with that outside.
+pub(crate) fn open_room(
+    alloc: Global,
+    text: &[u8],
+    piece: usize,
+    failing: Failing,
+) -> Result<Room, AllocError>
+    requires { 1 ≤ piece }
+{
+    let outside = outside_of(alloc, text, piece, failing)?;
+    let engine = Engine::new(alloc, LIMITS)?;
+    Ok(Room { engine, outside })
+}
+
 /// How a session ends, whose steps a new ledger counts.
-fn counted<L: Ledger>(engine: &mut Engine, outside: &mut Outside, blank: Blank) -> GtpEnd
+fn counted<L: Ledger>(room: &mut Room, blank: Blank) -> GtpEnd
     requires name { blank.name ≡ L.name }
     requires parts { blank.parts ≡ L.parts }
     requires some { 0 < blank.parts }
 {
-    engine.run(
-        &mut outside.shelf,
-        &mut outside.lines,
-        &mut outside.out,
+    room.engine.run(
+        &mut room.outside.shelf,
+        &mut room.outside.lines,
+        &mut room.outside.out,
         &mut Steps::<L>::new(blank),
     )
 }
 
 /// How a session ends.
-pub(crate) fn end_of(engine: &mut Engine, outside: &mut Outside) -> GtpEnd {
-    counted::<Brand>(engine, outside, Blank::new(1))
+pub(crate) fn end_of(room: &mut Room) -> GtpEnd {
+    counted::<Brand>(room, Blank::new(1))
 }

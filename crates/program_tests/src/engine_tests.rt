@@ -3,25 +3,17 @@
 ghost use Rattle.std.specs.Prelude.{◌≤◌};
 
 use crate::engine_lines::{Words, games_won};
-use crate::engine_rooms::{LIMITS, end_of, room};
-use crate::runs::{Failing, NOTHING_FAILS, Outside};
-use gtp_engine::{Engine, GtpEnd};
+use crate::engine_rooms::{Room, end_of, open_room};
+use crate::runs::{Failing, NOTHING_FAILS};
+use gtp_engine::GtpEnd;
 use std::alloc::Global;
 
-/// Whether a session of an engine ends and writes so.
-fn ends_with(engine: &mut Engine, outside: &mut Outside, end: GtpEnd, wants: &[u8]) -> bool {
-    end_of(engine, outside) == end && outside.out.written() == wants
+/// Whether a session ends and writes so.
+fn ends_so(room: &mut Room, end: GtpEnd, wants: &[u8]) -> bool {
+    end_of(room) == end && room.outside.out.written() == wants
 }
 
-/// The same of a new engine.
-fn ends_so(alloc: Global, outside: &mut Outside, end: GtpEnd, wants: &[u8]) -> bool {
-    match Engine::new(alloc, LIMITS) {
-        Ok(mut engine) => ends_with(&mut engine, outside, end, wants),
-        Err(_error) => false,
-    }
-}
-
-/// Whether a session over lines in pieces of a size ends and writes so.
+/// The same of a session over lines in pieces of a size.
 fn is_answered(
     alloc: Global,
     text: &[u8],
@@ -32,8 +24,8 @@ fn is_answered(
 ) -> bool
     requires { 1 ≤ piece }
 {
-    match room(alloc, text, piece, failing) {
-        Ok(mut outside) => ends_so(alloc, &mut outside, end, wants),
+    match open_room(alloc, text, piece, failing) {
+        Ok(mut room) => ends_so(&mut room, end, wants),
         Err(_error) => false,
     }
 }
@@ -125,24 +117,16 @@ const LOADS: &[u8] = b"loadsgf c\nloadsgf c 1\ngenmove w\nloadsgf c\nloadsgf \xf
 const LOADED: &[u8] = b"= \n\n? cannot load file\n\n= E2\n\n= \n\n? cannot load file\n\n";
 
 /// Whether a session over these loads ends so, and the engine then tells three loads, of which the second failed.
-fn notes_loads(engine: &mut Engine, outside: &mut Outside) -> bool {
-    ends_with(engine, outside, GtpEnd::InputEnded, LOADED)
-        && engine.loads().count() == 3
-        && engine.loads().failures() == [1].as_slice()
+fn notes_loads(room: &mut Room) -> bool {
+    ends_so(room, GtpEnd::InputEnded, LOADED)
+        && room.engine.loads().count() == 3
+        && room.engine.loads().failures() == [1].as_slice()
 }
 
 /// The same of a new engine.
-fn notes_new_loads(alloc: Global, outside: &mut Outside) -> bool {
-    match Engine::new(alloc, LIMITS) {
-        Ok(mut engine) => notes_loads(&mut engine, outside),
-        Err(_error) => false,
-    }
-}
-
-/// The same over the shelf of these tests.
 fn are_loads_noted(alloc: Global) -> bool {
-    match room(alloc, LOADS, 64, NO_SECOND_LOAD) {
-        Ok(mut outside) => notes_new_loads(alloc, &mut outside),
+    match open_room(alloc, LOADS, 64, NO_SECOND_LOAD) {
+        Ok(mut room) => notes_loads(&mut room),
         Err(_error) => false,
     }
 }

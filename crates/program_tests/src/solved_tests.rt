@@ -1,7 +1,8 @@
 //! Answers of worked games.
 
 use crate::worked_games::{
-    CORRIDOR, EMPTY, ENDLESS, Game, LIMITS, ONE_OPEN, ONE_POINT, TWO_OPEN, WITH_STONE, begun,
+    CORRIDOR, EMPTY, ENDLESS, Game, LIMITS, ONE_OPEN, ONE_POINT, Opened, TWO_OPEN, WITH_STONE,
+    begun,
 };
 use endgame_solver::{Limits, SolveError, Solved};
 use game_store::{Form, GameId, Store};
@@ -71,12 +72,17 @@ fn ask_all(solved: &mut Solved) -> Answers {
     }
 }
 
+/// The answers of what a game was begun as, if it is solved.
+fn answers_in(opened: &mut Opened) -> Option<Answers> {
+    match &mut opened.result {
+        Ok(solved) => Some(ask_all(solved)),
+        Err(_) => None,
+    }
+}
+
 /// The answers of a game, if it is solved.
 pub(crate) fn answers_of(alloc: Global, game: Game) -> Option<Answers> {
-    match begun(alloc, game, LIMITS) {
-        Ok(mut solved) => Some(ask_all(&mut solved)),
-        Err(_fault) => None,
-    }
+    answers_in(&mut begun(alloc, game, LIMITS))
 }
 
 /// A stone at the point of this number.
@@ -194,6 +200,14 @@ static REFUSALS: [Refusal; 6] = [
     (EMPTY, 100_000, 500, Refused::Points(36)),
 ];
 
+/// Whether a game was refused so.
+fn is_refused_so(opened: &Opened, refused: Refused) -> bool {
+    match &opened.result {
+        Ok(_) => matches!(refused, Refused::Not),
+        Err(fault) => is_refused_for(fault, refused),
+    }
+}
+
 /// Whether a row is so.
 fn is_refused(alloc: Global, row: &Refusal) -> bool {
     let limits = Limits {
@@ -201,10 +215,7 @@ fn is_refused(alloc: Global, row: &Refusal) -> bool {
         parts: row.2,
         tax: false,
     };
-    match begun(alloc, row.0, limits) {
-        Ok(_solved) => matches!(row.3, Refused::Not),
-        Err(fault) => is_refused_for(&fault, row.3),
-    }
+    is_refused_so(&begun(alloc, row.0, limits), row.3)
 }
 
 /// The first row that isn't so.
@@ -244,15 +255,15 @@ fn is_over(solved: &mut Solved) -> bool {
         && solved.play(Move::Stone(Point(4))) == Err(MoveError::Occupied)
 }
 
-/// Whether the game is played so.
-fn is_played(alloc: Global) -> bool {
-    match begun(alloc, ONE_OPEN, LIMITS) {
-        Ok(mut solved) => refuses(&mut solved) && goes_on(&mut solved) && is_over(&mut solved),
-        Err(_fault) => false,
+/// Whether a game that was begun is played so.
+fn is_played(opened: &mut Opened) -> bool {
+    match &mut opened.result {
+        Ok(solved) => refuses(solved) && goes_on(solved) && is_over(solved),
+        Err(_) => false,
     }
 }
 
 #[test]
 fn played(rt: HostRuntime) {
-    assert!(rt; is_played(rt.alloc()));
+    assert!(rt; is_played(&mut begun(rt.alloc(), ONE_OPEN, LIMITS)));
 }

@@ -135,7 +135,15 @@ fn begin<L: Ledger>(
     }
 }
 
+/// What a game is begun as: solved, or refused. As a value of this crate its drop is one call.
+#[derive(Drop)]
+pub(crate) struct Opened {
+    pub result: Result<Solved, SolveError>,
+}
+
 /// The same, whose steps a new ledger counts.
-pub(crate) fn begun(alloc: Global, game: Game, limits: Limits) -> Result<Solved, SolveError> {
-    begin::<Brand>(alloc, Blank::new(1), game, limits)
+pub(crate) fn begun(alloc: Global, game: Game, limits: Limits) -> Opened {
+    Opened {
+        result: begin::<Brand>(alloc, Blank::new(1), game, limits),
+    }
 }
