@@ -1,5 +1,6 @@
 //! What `board`, `margin`, `moves` and `line` write.
 
+use crate::asserts::none_wrong;
 use crate::endings::Ends;
 use crate::files::COPY;
 use crate::runs::{Row, first_wrong};
@@ -136,5 +137,5 @@ static RUNS: [Row; 30] = [
 
 #[test]
 fn boards_margins_moves_and_lines(rt: HostRuntime) {
-    assert_eq!(rt; first_wrong(rt.alloc(), &RUNS), None);
+    none_wrong(&rt, first_wrong(rt.alloc(), &RUNS));
 }

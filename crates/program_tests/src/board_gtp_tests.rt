@@ -1,5 +1,6 @@
 //! Sessions of the engine that keeps a board.
 
+use crate::asserts::none_wrong;
 use crate::endings::Ends;
 use crate::runs::{Failing, FailingRow, NOTHING_FAILS, first_failing_wrong};
 
@@ -164,5 +165,5 @@ static SESSIONS: [FailingRow; 10] = [
 
 #[test]
 fn keeps_a_board(rt: HostRuntime) {
-    assert_eq!(rt; first_failing_wrong(rt.alloc(), &SESSIONS), None);
+    none_wrong(&rt, first_failing_wrong(rt.alloc(), &SESSIONS));
 }

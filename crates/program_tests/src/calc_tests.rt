@@ -1,5 +1,6 @@
 //! The calculator of games.
 
+use crate::asserts::none_wrong;
 use crate::endings::Ends;
 use crate::runs::{Failing, FailingRow, NOTHING_FAILS, are_right, first_failing_wrong};
 use game_calc::CalcFault;
@@ -111,7 +112,7 @@ static EXPRESSIONS: [FailingRow; 12] = [
 
 #[test]
 fn answers_expressions(rt: HostRuntime) {
-    assert_eq!(rt; first_failing_wrong(rt.alloc(), &EXPRESSIONS), None);
+    none_wrong(&rt, first_failing_wrong(rt.alloc(), &EXPRESSIONS));
 }
 
 /// Answers that the sink has no room for.
@@ -137,7 +138,7 @@ static CUT_ANSWERS: [FailingRow; 3] = [
 
 #[test]
 fn a_failed_write_leaves_a_front_part(rt: HostRuntime) {
-    assert_eq!(rt; first_failing_wrong(rt.alloc(), &CUT_ANSWERS), None);
+    none_wrong(&rt, first_failing_wrong(rt.alloc(), &CUT_ANSWERS));
 }
 
 /// Whether an expression is told to be nested too deep.

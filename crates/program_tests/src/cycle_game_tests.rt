@@ -2,6 +2,7 @@
 
 ghost use Rattle.std.specs.Prelude.{◌≡◌, ◌<◌};
 
+use crate::asserts::none_wrong;
 use crate::solved_tests::stone_at;
 use crate::worked_games::{ENDLESS, Game, LIMITS, setup};
 use cycle_solver::{CycleError, CycleGame, Thresholds};
@@ -41,7 +42,7 @@ fn begin<L: Ledger>(
     }
 }
 
-/// What a game is begun as: solved, or refused. As a value of this crate its drop is one call.
+/// What a game is begun as: solved, or refused.
 #[derive(Drop)]
 pub(crate) struct CycleOpened {
     pub result: Result<CycleGame, CycleError>,
@@ -85,7 +86,11 @@ fn is_won(alloc: Global, row: &Won) -> bool {
         komi: row.1,
         ..row.0
     };
-    has_answers(&mut begun(alloc, game, LIMITS), row)
+    let mut opened = begun(alloc, game, LIMITS);
+    let right = has_answers(&mut opened, row);
+    // A solved game is large: as a call its drop is one step of the proof.
+    drop(opened);
+    right
 }
 
 /// The first of the games with other answers.
@@ -100,7 +105,7 @@ fn wrong_game(alloc: Global) -> Option<usize> {
 
 #[test]
 fn games_with_cycles(rt: HostRuntime) {
-    assert_eq!(rt; wrong_game(rt.alloc()), None);
+    none_wrong(&rt, wrong_game(rt.alloc()));
 }
 
 /// Whether the thresholds are these, in half-points.
@@ -138,20 +143,28 @@ fn has_winners(solved: &mut CycleGame) -> bool {
         && solved.winner_after(Move::Half).is_none()
 }
 
-/// Whether all of these are.
-fn are_moves_right(opened: &mut CycleOpened) -> bool {
+/// Whether all of these are, in the game as it was begun.
+fn has_right_moves(opened: &mut CycleOpened) -> bool {
     match &mut opened.result {
         Ok(solved) => has_thresholds(solved) && has_stone_thresholds(solved) && has_winners(solved),
         Err(_) => false,
     }
 }
 
-#[test]
-fn moves_with_cycles(rt: HostRuntime) {
-    assert!(rt; are_moves_right(&mut begun(rt.alloc(), ENDLESS, LIMITS)));
+/// Whether all of these are.
+fn are_moves_right(alloc: Global) -> bool {
+    let mut opened = begun(alloc, ENDLESS, LIMITS);
+    let right = has_right_moves(&mut opened);
+    drop(opened);
+    right
 }
 
-/// Whether a game wasn't solved within the limits, for the positions of the region of this point.
+#[test]
+fn moves_with_cycles(rt: HostRuntime) {
+    assert!(rt; are_moves_right(rt.alloc()));
+}
+
+/// Whether a game wasn't solved, for the positions of the region of this point.
 fn has_too_many(opened: &CycleOpened, point: u16) -> bool {
     match &opened.result {
         Ok(_) => false,
@@ -159,11 +172,19 @@ fn has_too_many(opened: &CycleOpened, point: u16) -> bool {
     }
 }
 
-#[test]
-fn too_many_positions(rt: HostRuntime) {
+/// Whether the game has more than seven.
+fn has_more_than_seven(alloc: Global) -> bool {
     let limits = Limits {
         positions: 7,
         ..LIMITS
     };
-    assert!(rt; has_too_many(&begun(rt.alloc(), ENDLESS, limits), 14));
+    let opened = begun(alloc, ENDLESS, limits);
+    let right = has_too_many(&opened, 14);
+    drop(opened);
+    right
+}
+
+#[test]
+fn too_many_positions(rt: HostRuntime) {
+    assert!(rt; has_more_than_seven(rt.alloc()));
 }

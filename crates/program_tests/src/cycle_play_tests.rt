@@ -1,5 +1,6 @@
 //! Games and sessions of the engine where kos can arise.
 
+use crate::asserts::{all_won, none_wrong};
 use crate::endings::Ends;
 use crate::every_line::games_won;
 use crate::runs::{FailingRow, NOTHING_FAILS, first_failing_wrong};
@@ -88,7 +89,7 @@ static SESSIONS: [FailingRow; 9] = [
 
 #[test]
 fn plays_where_kos_arise(rt: HostRuntime) {
-    assert_eq!(rt; first_failing_wrong(rt.alloc(), &SESSIONS), None);
+    none_wrong(&rt, first_failing_wrong(rt.alloc(), &SESSIONS));
 }
 
 /// What the opponent may try on the board with one ko.
@@ -101,15 +102,17 @@ static KOS_TRIES: [&[u8]; 6] = [b"ea\n", b"fa\n", b"ec\n", b"fc\n", b"spend\n", 
 fn wins_against_every_line_where_kos_arise(rt: HostRuntime) {
     let alloc = rt.alloc();
     let one = games_won(alloc, "play~k~--cycles~yes", &KO_TRIES, b"winner black");
-    assert_eq!(rt; one, Some(3));
+    all_won(&rt, one, 3);
     let words = "play~kos~--komi~-3~--cycles~yes";
-    assert_eq!(rt;
+    all_won(
+        &rt,
         games_won(alloc, words, &KOS_TRIES, b"winner black"),
-        Some(12)
+        12,
     );
     let words = "play~kos~--komi~2~--as~white~--cycles~yes";
-    assert_eq!(rt;
+    all_won(
+        &rt,
         games_won(alloc, words, &KOS_TRIES, b"winner white"),
-        Some(12)
+        12,
     );
 }

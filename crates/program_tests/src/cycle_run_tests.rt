@@ -1,5 +1,6 @@
 //! Runs on files in whose regions kos can arise: with the option that admits cycles, and without it.
 
+use crate::asserts::none_wrong;
 use crate::endings::Ends;
 use crate::run_tests::TIE_TEXT;
 use crate::runs::{Row, first_wrong};
@@ -55,7 +56,7 @@ static SOLUTIONS: [Row; 9] = [
 
 #[test]
 fn tells_who_wins_where_kos_arise(rt: HostRuntime) {
-    assert_eq!(rt; first_wrong(rt.alloc(), &SOLUTIONS), None);
+    none_wrong(&rt, first_wrong(rt.alloc(), &SOLUTIONS));
 }
 
 const BOTH_VALUES: &str = "regions 1\nregion eb points 2 positions 8\nlow {*|-1}\nstops 0 -1\n\
@@ -91,5 +92,5 @@ static ANALYSES: [Row; 5] = [
 
 #[test]
 fn tells_what_moves_are_worth_where_kos_arise(rt: HostRuntime) {
-    assert_eq!(rt; first_wrong(rt.alloc(), &ANALYSES), None);
+    none_wrong(&rt, first_wrong(rt.alloc(), &ANALYSES));
 }

@@ -1,5 +1,6 @@
 //! Devices that fail, and files that are cut.
 
+use crate::asserts::{none_wrong, nowhere_wrong};
 use crate::endings::Ends;
 use crate::files::{COPY, ONE_POINT, shelf};
 use crate::run_tests::{ONE_POINT_TEXT, POINT_SAFE, SEVEN_TEXT};
@@ -91,7 +92,7 @@ fn wrong_command(alloc: Global) -> Option<(usize, usize)> {
 
 #[test]
 fn calls_that_fail_are_told(rt: HostRuntime) {
-    assert_eq!(rt; wrong_command(rt.alloc()), None);
+    nowhere_wrong(&rt, wrong_command(rt.alloc()));
 }
 
 /// Whether a command over the source fails with this read.
@@ -171,7 +172,7 @@ fn wrong_front(alloc: Global) -> Option<(usize, usize)> {
 
 #[test]
 fn a_full_sink_has_a_front_part(rt: HostRuntime) {
-    assert_eq!(rt; wrong_front(rt.alloc()), None);
+    nowhere_wrong(&rt, wrong_front(rt.alloc()));
 }
 
 /// The read and the write of the same game that fail, how the run ends and what is written.
@@ -231,7 +232,7 @@ fn wrong_game(alloc: Global) -> Option<usize> {
 
 #[test]
 fn a_session_is_written_turn_by_turn(rt: HostRuntime) {
-    assert_eq!(rt; wrong_game(rt.alloc()), None);
+    none_wrong(&rt, wrong_game(rt.alloc()));
 }
 
 /// Words outside the grammar.
@@ -276,7 +277,7 @@ fn wrong_words(alloc: Global) -> Option<usize> {
 
 #[test]
 fn faulty_words_on_a_failing_sink_write_nothing(rt: HostRuntime) {
-    assert_eq!(rt; wrong_words(rt.alloc()), None);
+    none_wrong(&rt, wrong_words(rt.alloc()));
 }
 
 /// Whether a file has this fault in its tree.
@@ -306,7 +307,7 @@ fn wrong_length(alloc: Global, file: &[u8]) -> Option<usize> {
 
 #[test]
 fn a_file_that_is_cut_is_told(rt: HostRuntime) {
-    assert_eq!(rt; wrong_length(rt.alloc(), COPY), None);
+    none_wrong(&rt, wrong_length(rt.alloc(), COPY));
 }
 
 static COUNTS: [Counts; 8] = [
@@ -340,5 +341,5 @@ fn wrong_counts(alloc: Global) -> Option<usize> {
 
 #[test]
 fn a_text_and_each_line_of_a_game_are_one_write(rt: HostRuntime) {
-    assert_eq!(rt; wrong_counts(rt.alloc()), None);
+    none_wrong(&rt, wrong_counts(rt.alloc()));
 }

@@ -1,14 +1,27 @@
 //! Sessions of the engine against every line of the opponent's.
 
-use crate::engine_rooms::{end_of, open_room};
-use crate::runs::NOTHING_FAILS;
+use crate::engine_rooms::{room_for, session_over};
+use crate::runs::{NOTHING_FAILS, Outside};
 use std::alloc::{AllocError, Global};
 
-/// Whether a session over lines writes so at its end, or want of memory.
+/// Whether a session over an outside writes so at its end, or want of memory.
+fn writes_last(alloc: Global, outside: &mut Outside, last: &[u8]) -> Result<bool, AllocError> {
+    match session_over(alloc, outside) {
+        Some(_session) => Ok(outside.out.written().ends_with(last)),
+        None => Err(AllocError),
+    }
+}
+
+/// The same of a session over lines.
 fn is_last(alloc: Global, lines: &[u8], last: &[u8]) -> Result<bool, AllocError> {
-    let mut room = open_room(alloc, lines, 500, NOTHING_FAILS)?;
-    let _end = end_of(&mut room);
-    Ok(room.outside.out.written().ends_with(last))
+    match room_for(alloc, lines, 500, NOTHING_FAILS) {
+        Ok(mut outside) => {
+            let right = writes_last(alloc, &mut outside, last);
+            drop(outside);
+            right
+        }
+        Err(error) => Err(error),
+    }
 }
 
 /// Appends a line, made of parts.

@@ -2,9 +2,8 @@
 
 ghost use Rattle.std.specs.Prelude.{◌≡◌, ◌<◌, ◌≤◌};
 
-use crate::files::ONE_POINT;
+use crate::files::{File, ONE_POINT, shelf_with};
 use crate::runs::{Failing, Outside, sink, source};
-use desk_io::MemoryShelf;
 use gtp_engine::{Engine, EngineLimits, GtpEnd};
 use local_play::Steps;
 use std::alloc::{AllocError, Global};
@@ -26,23 +25,11 @@ const LIMITS: EngineLimits = EngineLimits {
     cycles: false,
 };
 
-/// Puts the files of these tests on a shelf, of which the load of this number fails.
-fn set_up(alloc: Global, shelf: &mut MemoryShelf, failing: u64) -> Result<(), AllocError> {
-    shelf.add("c", ONE_POINT.to_vec(alloc)?)?;
-    shelf.add("corridor", CORRIDOR.to_vec(alloc)?)?;
-    shelf.add("atari", ATARI.to_vec(alloc)?)?;
-    shelf.fail_at(failing)
-}
+/// The files of these tests.
+static FILES: [File; 3] = [("c", ONE_POINT), ("corridor", CORRIDOR), ("atari", ATARI)];
 
-/// A shelf with these files.
-fn shelf(alloc: Global, failing: u64) -> Result<MemoryShelf, AllocError> {
-    let mut shelf = MemoryShelf::new(alloc);
-    set_up(alloc, &mut shelf, failing)?;
-    Ok(shelf)
-}
-
-/// That shelf, a source that gives these lines in pieces of a size, and a sink.
-fn outside_of(
+/// A shelf with these files, a source that gives these lines in pieces of a size, and a sink.
+pub(crate) fn room_for(
     alloc: Global,
     text: &[u8],
     piece: usize,
@@ -52,46 +39,54 @@ fn outside_of(
 {
     let lines = source(alloc, text, piece, failing.read)?;
     let out = sink(alloc, 5_000, failing.write)?;
-    let shelf = shelf(alloc, failing.load)?;
+    let shelf = shelf_with(alloc, &FILES, failing.load)?;
     Ok(Outside { shelf, lines, out })
 }
 
-/// An engine and the outside of its session.
-#[derive(Drop)]
-pub(crate) struct Room {
-    pub engine: Engine,
-    pub outside: Outside,
+/// What a session comes to: its end, how many loads there were, how many of them failed, and the first that did.
+#[derive(Clone, Copy)]
+pub(crate) struct Session {
+    pub end: GtpEnd,
+    pub loads: u32,
+    pub failed: usize,
+    pub first_failed: Option<u32>,
 }
 
-/// A new engine with that outside.
-pub(crate) fn open_room(
-    alloc: Global,
-    text: &[u8],
-    piece: usize,
-    failing: Failing,
-) -> Result<Room, AllocError>
-    requires { 1 ≤ piece }
-{
-    let outside = outside_of(alloc, text, piece, failing)?;
-    let engine = Engine::new(alloc, LIMITS)?;
-    Ok(Room { engine, outside })
+/// What the session of an engine came to.
+fn session_of(engine: &Engine, end: GtpEnd) -> Session {
+    let loads = engine.loads();
+    Session {
+        end,
+        loads: loads.count(),
+        failed: loads.failures().len(),
+        first_failed: loads.failures().first().copied(),
+    }
 }
 
-/// How a session ends, whose steps a new ledger counts.
-fn counted<L: Ledger>(room: &mut Room, blank: Blank) -> GtpEnd
+/// What a session of a new engine over an outside comes to, whose steps a new ledger counts.
+fn counted<L: Ledger>(alloc: Global, outside: &mut Outside, blank: Blank) -> Option<Session>
     requires name { blank.name ≡ L.name }
     requires parts { blank.parts ≡ L.parts }
     requires some { 0 < blank.parts }
 {
-    room.engine.run(
-        &mut room.outside.shelf,
-        &mut room.outside.lines,
-        &mut room.outside.out,
-        &mut Steps::<L>::new(blank),
-    )
+    match Engine::new(alloc, LIMITS) {
+        Ok(mut engine) => {
+            let end = engine.run(
+                &mut outside.shelf,
+                &mut outside.lines,
+                &mut outside.out,
+                &mut Steps::<L>::new(blank),
+            );
+            let session = session_of(&engine, end);
+            // An engine is large: as a call its drop is one step of the proof.
+            drop(engine);
+            Some(session)
+        }
+        Err(_error) => None,
+    }
 }
 
-/// How a session ends.
-pub(crate) fn end_of(room: &mut Room) -> GtpEnd {
-    counted::<Brand>(room, Blank::new(1))
+/// What a session of a new engine over an outside comes to.
+pub(crate) fn session_over(alloc: Global, outside: &mut Outside) -> Option<Session> {
+    counted::<Brand>(alloc, outside, Blank::new(1))
 }

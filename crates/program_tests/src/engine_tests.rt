@@ -2,15 +2,19 @@
 
 ghost use Rattle.std.specs.Prelude.{◌≤◌};
 
+use crate::asserts::{all_won, none_wrong};
 use crate::engine_lines::{Words, games_won};
-use crate::engine_rooms::{Room, end_of, open_room};
-use crate::runs::{Failing, NOTHING_FAILS};
+use crate::engine_rooms::{Session, room_for, session_over};
+use crate::runs::{Failing, NOTHING_FAILS, Outside};
 use gtp_engine::GtpEnd;
 use std::alloc::Global;
 
-/// Whether a session ends and writes so.
-fn ends_so(room: &mut Room, end: GtpEnd, wants: &[u8]) -> bool {
-    end_of(room) == end && room.outside.out.written() == wants
+/// Whether a session over an outside ends and writes so.
+fn ends_so(alloc: Global, outside: &mut Outside, end: GtpEnd, wants: &[u8]) -> bool {
+    match session_over(alloc, outside) {
+        Some(session) => session.end == end && outside.out.written() == wants,
+        None => false,
+    }
 }
 
 /// The same of a session over lines in pieces of a size.
@@ -24,8 +28,12 @@ fn is_answered(
 ) -> bool
     requires { 1 ≤ piece }
 {
-    match open_room(alloc, text, piece, failing) {
-        Ok(mut room) => ends_so(&mut room, end, wants),
+    match room_for(alloc, text, piece, failing) {
+        Ok(mut outside) => {
+            let right = ends_so(alloc, &mut outside, end, wants);
+            drop(outside);
+            right
+        }
         Err(_error) => false,
     }
 }
@@ -80,9 +88,9 @@ fn first_wrong(alloc: Global, piece: usize) -> Option<usize>
 
 #[test]
 fn answers_lines(rt: HostRuntime) {
-    assert_eq!(rt; first_wrong(rt.alloc(), 1), None);
-    assert_eq!(rt; first_wrong(rt.alloc(), 7), None);
-    assert_eq!(rt; first_wrong(rt.alloc(), 5_000), None);
+    none_wrong(&rt, first_wrong(rt.alloc(), 1));
+    none_wrong(&rt, first_wrong(rt.alloc(), 7));
+    none_wrong(&rt, first_wrong(rt.alloc(), 5_000));
 }
 
 /// Whether a session with one call that fails ends so, after one answer.
@@ -116,17 +124,30 @@ const LOADS: &[u8] = b"loadsgf c\nloadsgf c 1\ngenmove w\nloadsgf c\nloadsgf \xf
 
 const LOADED: &[u8] = b"= \n\n? cannot load file\n\n= E2\n\n= \n\n? cannot load file\n\n";
 
-/// Whether a session over these loads ends so, and the engine then tells three loads, of which the second failed.
-fn notes_loads(room: &mut Room) -> bool {
-    ends_so(room, GtpEnd::InputEnded, LOADED)
-        && room.engine.loads().count() == 3
-        && room.engine.loads().failures() == [1].as_slice()
+/// Whether a session had three loads, of which the second failed, and went to the end of the input.
+fn has_loads(session: Session) -> bool {
+    session.end == GtpEnd::InputEnded
+        && session.loads == 3
+        && session.failed == 1
+        && session.first_failed == Some(1)
 }
 
-/// The same of a new engine.
+/// Whether a session over these loads comes to that, and writes this.
+fn notes_loads(alloc: Global, outside: &mut Outside) -> bool {
+    match session_over(alloc, outside) {
+        Some(session) => has_loads(session) && outside.out.written() == LOADED,
+        None => false,
+    }
+}
+
+/// The same over the shelf of these tests.
 fn are_loads_noted(alloc: Global) -> bool {
-    match open_room(alloc, LOADS, 64, NO_SECOND_LOAD) {
-        Ok(mut room) => notes_loads(&mut room),
+    match room_for(alloc, LOADS, 64, NO_SECOND_LOAD) {
+        Ok(mut outside) => {
+            let right = notes_loads(alloc, &mut outside);
+            drop(outside);
+            right
+        }
         Err(_error) => false,
     }
 }
@@ -162,6 +183,6 @@ const BLACK: Words<'static> = Words {
 
 #[test]
 fn wins_against_every_line(rt: HostRuntime) {
-    assert_eq!(rt; games_won(rt.alloc(), b"loadsgf corridor", WHITE), Some(4));
-    assert_eq!(rt; games_won(rt.alloc(), b"loadsgf atari", BLACK), Some(4));
+    all_won(&rt, games_won(rt.alloc(), b"loadsgf corridor", WHITE), 4);
+    all_won(&rt, games_won(rt.alloc(), b"loadsgf atari", BLACK), 4);
 }

@@ -65,7 +65,11 @@ fn told_over(alloc: Global, words: &[&str], outside: &mut Outside, winner: &[u8]
 /// What a game over these lines comes to.
 fn told_of(alloc: Global, words: &[&str], lines: &[u8], winner: &[u8]) -> Told {
     match outside_of(alloc, lines, 7, 5_000, NOTHING_FAILS) {
-        Ok(mut outside) => told_over(alloc, words, &mut outside, winner),
+        Ok(mut outside) => {
+            let told = told_over(alloc, words, &mut outside, winner);
+            drop(outside);
+            told
+        }
         Err(_error) => Told::Otherwise,
     }
 }
@@ -100,8 +104,8 @@ fn won_from(
     table: &[&[u8]],
     winner: &[u8],
     tries: &mut Vec<usize>,
-) -> Option<u32> {
-    let mut games = 0_u32;
+) -> Option<usize> {
+    let mut games = 0_usize;
     for _ in 0..5_000 {
         let told = told_with(alloc, words, table, winner, tries, &mut Vec::new(alloc));
         match told {
@@ -121,7 +125,12 @@ fn won_from(
 
 /// How many games are played to their end against all lines of the tries, each of which the engine wins; or nothing where one
 /// is lost, or a game is left.
-pub(crate) fn games_won(alloc: Global, words: &str, table: &[&[u8]], winner: &[u8]) -> Option<u32> {
+pub(crate) fn games_won(
+    alloc: Global,
+    words: &str,
+    table: &[&[u8]],
+    winner: &[u8],
+) -> Option<usize> {
     match words_between(alloc, words) {
         Ok(words) => won_from(alloc, &words, table, winner, &mut Vec::new(alloc)),
         Err(_error) => None,

@@ -49,8 +49,11 @@ pub(crate) const TWICE: &[u8] = b"(;SZ[3]TB[aa:ba]TW[ba])";
 /// Two walls of settled points around a corridor of three.
 pub(crate) const WALLS: &[u8] = b"(;SZ[7:3]AB[ca:cc]AW[ea:ec]TB[aa:bc]TW[fa:gc])";
 
+/// A file by its name on a shelf.
+pub(crate) type File = (&'static str, &'static [u8]);
+
 /// The files of the tests by their names on the shelf.
-static FILES: [(&str, &[u8]); 13] = [
+static FILES: [File; 13] = [
     ("a", TIE),
     ("b", TWO_POINTS),
     ("c", ONE_POINT),
@@ -66,23 +69,37 @@ static FILES: [(&str, &[u8]); 13] = [
     ("twice", TWICE),
 ];
 
-/// Puts the files of the tests on a shelf.
-fn fill(alloc: Global, shelf: &mut MemoryShelf) -> Result<(), AllocError> {
-    for file in &FILES {
+/// Puts files on a shelf.
+fn fill(alloc: Global, shelf: &mut MemoryShelf, files: &[File]) -> Result<(), AllocError> {
+    for file in files {
         shelf.add(file.0, file.1.to_vec(alloc)?)?;
     }
     Ok(())
 }
 
-/// Puts the files of the tests on a shelf, of which the load of this number fails.
-fn set_up(alloc: Global, shelf: &mut MemoryShelf, failing: u64) -> Result<(), AllocError> {
-    fill(alloc, shelf)?;
+/// Puts files on a shelf, of which the load of this number fails.
+fn set_up(
+    alloc: Global,
+    shelf: &mut MemoryShelf,
+    files: &[File],
+    failing: u64,
+) -> Result<(), AllocError> {
+    fill(alloc, shelf, files)?;
     shelf.fail_at(failing)
 }
 
-/// A shelf with the files of the tests, of which the load of this number fails.
-pub(crate) fn shelf(alloc: Global, failing: u64) -> Result<MemoryShelf, AllocError> {
+/// A shelf with files, of which the load of this number fails.
+pub(crate) fn shelf_with(
+    alloc: Global,
+    files: &[File],
+    failing: u64,
+) -> Result<MemoryShelf, AllocError> {
     let mut shelf = MemoryShelf::new(alloc);
-    set_up(alloc, &mut shelf, failing)?;
+    set_up(alloc, &mut shelf, files, failing)?;
     Ok(shelf)
+}
+
+/// A shelf with the files of the tests.
+pub(crate) fn shelf(alloc: Global, failing: u64) -> Result<MemoryShelf, AllocError> {
+    shelf_with(alloc, &FILES, failing)
 }

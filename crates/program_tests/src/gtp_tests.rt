@@ -1,5 +1,6 @@
 //! Sessions of the engine.
 
+use crate::asserts::none_wrong;
 use crate::endings::Ends;
 use crate::runs::{Failing, FailingRow, NOTHING_FAILS, first_failing_wrong, is_right};
 use std::alloc::{AllocError, Global};
@@ -87,7 +88,7 @@ static SESSIONS: [FailingRow; 8] = [
 
 #[test]
 fn answers_the_lines(rt: HostRuntime) {
-    assert_eq!(rt; first_failing_wrong(rt.alloc(), &SESSIONS), None);
+    none_wrong(&rt, first_failing_wrong(rt.alloc(), &SESSIONS));
 }
 
 /// Empty lines, what stands behind them, how the session ends, and what is written.
@@ -140,5 +141,5 @@ fn wrong_session(alloc: Global) -> Option<usize> {
 
 #[test]
 fn reads_ten_thousand_lines(rt: HostRuntime) {
-    assert_eq!(rt; wrong_session(rt.alloc()), None);
+    none_wrong(&rt, wrong_session(rt.alloc()));
 }

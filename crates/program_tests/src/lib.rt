@@ -4,6 +4,8 @@
 #[cfg(test)]
 mod analysis_tests;
 #[cfg(test)]
+mod asserts;
+#[cfg(test)]
 mod board_gtp_tests;
 #[cfg(test)]
 mod calc_tests;

@@ -3,6 +3,7 @@
 ghost use Rattle.std.specs.Prelude.{◌≡◌, ◌<◌, ◌^◌, true};
 ghost use Rattle.go_grid.specs.Chain.{IsSettled};
 
+use crate::asserts::nowhere_wrong;
 use crate::solved_tests::{Answers, answers_of};
 use crate::worked_games::{
     CORRIDOR, Game, ONE_OPEN, ONE_POINT, TWO_APART, TWO_OPEN, WITH_STONE, setup,
@@ -132,11 +133,13 @@ fn wrong_game(alloc: Global, komi: i64, side: Colour) -> Option<usize> {
     None
 }
 
-/// The first komi with which they don't agree in some game.
-fn wrong_komi(alloc: Global, side: Colour) -> Option<(i64, usize)> {
-    for komi in [-3, -1, 0, 1, 2] {
-        if let Some(at) = wrong_game(alloc, komi, side) {
-            return Some((komi, at));
+static KOMIS: [i64; 5] = [-3, -1, 0, 1, 2];
+
+/// The first komi with which they don't agree in some game, and the game.
+fn wrong_komi(alloc: Global, side: Colour) -> Option<(usize, usize)> {
+    for (at, komi) in KOMIS.iter().enumerate() {
+        if let Some(game) = wrong_game(alloc, *komi, side) {
+            return Some((at, game));
         }
     }
     None
@@ -144,6 +147,6 @@ fn wrong_komi(alloc: Global, side: Colour) -> Option<(i64, usize)> {
 
 #[test]
 fn plain_recursion(rt: HostRuntime) {
-    assert_eq!(rt; wrong_komi(rt.alloc(), Colour::Black), None);
-    assert_eq!(rt; wrong_komi(rt.alloc(), Colour::White), None);
+    nowhere_wrong(&rt, wrong_komi(rt.alloc(), Colour::Black));
+    nowhere_wrong(&rt, wrong_komi(rt.alloc(), Colour::White));
 }

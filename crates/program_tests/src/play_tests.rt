@@ -2,6 +2,7 @@
 
 ghost use Rattle.std.specs.Prelude.{◌≤◌};
 
+use crate::asserts::{all_won, none_wrong};
 use crate::endings::{Ends, status_by};
 use crate::every_line::games_won;
 use crate::runs::{
@@ -99,7 +100,7 @@ static GAMES: [FailingRow; 9] = [
 
 #[test]
 fn plays_over_the_lines(rt: HostRuntime) {
-    assert_eq!(rt; first_failing_wrong(rt.alloc(), &GAMES), None);
+    none_wrong(&rt, first_failing_wrong(rt.alloc(), &GAMES));
 }
 
 /// Lines, and the text of the game over them.
@@ -142,10 +143,10 @@ fn wrong_lines(alloc: Global, piece: usize) -> Option<usize>
 
 #[test]
 fn takes_lines_in_pieces(rt: HostRuntime) {
-    assert_eq!(rt; wrong_lines(rt.alloc(), 1), None);
-    assert_eq!(rt; wrong_lines(rt.alloc(), 2), None);
-    assert_eq!(rt; wrong_lines(rt.alloc(), 100), None);
-    assert_eq!(rt; wrong_lines(rt.alloc(), 1000), None);
+    none_wrong(&rt, wrong_lines(rt.alloc(), 1));
+    none_wrong(&rt, wrong_lines(rt.alloc(), 2));
+    none_wrong(&rt, wrong_lines(rt.alloc(), 100));
+    none_wrong(&rt, wrong_lines(rt.alloc(), 1000));
 }
 
 /// Appends the text so many times.
@@ -187,7 +188,7 @@ fn wrong_blanks(alloc: Global) -> Option<usize> {
 
 #[test]
 fn a_line_is_cut_after_256_bytes(rt: HostRuntime) {
-    assert_eq!(rt; wrong_blanks(rt.alloc()), None);
+    none_wrong(&rt, wrong_blanks(rt.alloc()));
 }
 
 /// Appends what is written where so many lines are refused.
@@ -212,11 +213,15 @@ fn has_too_many_lines(alloc: Global, lines: &mut Vec<u8>, text: &mut Vec<u8>) ->
         )
 }
 
+/// The same of new lines and a new text.
+fn ends_at_ten_thousand(alloc: Global) -> bool {
+    has_too_many_lines(alloc, &mut Vec::new(alloc), &mut Vec::new(alloc))
+}
+
 #[test]
 fn reads_ten_thousand_lines(rt: HostRuntime) {
-    let alloc = rt.alloc();
-    assert!(rt; has_too_many_lines(alloc, &mut Vec::new(alloc), &mut Vec::new(alloc)));
-    assert_eq!(rt; status_by(Ends::TooManyLines).code(), 9);
+    assert!(rt; ends_at_ten_thousand(rt.alloc()));
+    assert!(rt; status_by(Ends::TooManyLines).code() == 9);
 }
 
 /// What the opponent may try at each turn.
@@ -225,10 +230,7 @@ static TRIES: [&[u8]; 5] = [b"eb\n", b"fb\n", b"gb\n", b"spend\n", b"half\n"];
 #[test]
 fn an_engine_that_wins_never_loses(rt: HostRuntime) {
     let alloc = rt.alloc();
-    assert_eq!(rt;
-        games_won(alloc, "play~f", &TRIES, b"winner black"),
-        Some(4)
-    );
+    all_won(&rt, games_won(alloc, "play~f", &TRIES, b"winner black"), 4);
     let words = "play~d~--turn~white~--as~black";
-    assert_eq!(rt; games_won(alloc, words, &TRIES, b"winner black"), Some(4));
+    all_won(&rt, games_won(alloc, words, &TRIES, b"winner black"), 4);
 }

@@ -1,5 +1,6 @@
 //! What `solve`, `safe` and `trial` write, and words in and outside the grammar.
 
+use crate::asserts::none_wrong;
 use crate::endings::Ends;
 use crate::files::TIE;
 use crate::runs::{Row, first_wrong};
@@ -119,7 +120,7 @@ static SHELF_RUNS: [Row; 18] = [
 
 #[test]
 fn solves_files_of_the_shelf(rt: HostRuntime) {
-    assert_eq!(rt; first_wrong(rt.alloc(), &SHELF_RUNS), None);
+    none_wrong(&rt, first_wrong(rt.alloc(), &SHELF_RUNS));
 }
 
 /// Regions past the limits, and one with a cycle.
@@ -136,7 +137,7 @@ static REGION_FAULTS: [Row; 3] = [
 
 #[test]
 fn answers_faults_of_regions(rt: HostRuntime) {
-    assert_eq!(rt; first_wrong(rt.alloc(), &REGION_FAULTS), None);
+    none_wrong(&rt, first_wrong(rt.alloc(), &REGION_FAULTS));
 }
 
 /// Words in and outside the grammar, with a file in the source.
@@ -170,5 +171,5 @@ static WORDS: [Row; 15] = [
 
 #[test]
 fn answers_words_by_their_grammar(rt: HostRuntime) {
-    assert_eq!(rt; first_wrong(rt.alloc(), &WORDS), None);
+    none_wrong(&rt, first_wrong(rt.alloc(), &WORDS));
 }

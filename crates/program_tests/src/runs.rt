@@ -165,7 +165,11 @@ pub(crate) fn are_right(
     requires { 1 ≤ piece }
 {
     match outside_of(alloc, file, piece, room, failing) {
-        Ok(mut outside) => is_so(alloc, words, &mut outside, ends, text),
+        Ok(mut outside) => {
+            let right = is_so(alloc, words, &mut outside, ends, text);
+            drop(outside);
+            right
+        }
         Err(_error) => false,
     }
 }

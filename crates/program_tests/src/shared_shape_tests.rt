@@ -1,5 +1,6 @@
 //! Regions whose openings have one shape.
 
+use crate::asserts::none_wrong;
 use crate::solved_tests::answers_of;
 use crate::worked_games::{CORRIDOR, Game, ONE_OPEN, ONE_POINT, TWO_APART};
 use go_grid::Colour;
@@ -50,7 +51,7 @@ fn wrong_shapes(alloc: Global) -> Option<usize> {
 
 #[test]
 fn numbers_of_shapes(rt: HostRuntime) {
-    assert_eq!(rt; wrong_shapes(rt.alloc()), None);
+    none_wrong(&rt, wrong_shapes(rt.alloc()));
 }
 
 /// Whether a player who moves first in the game of opposite corridors loses, as their values add up to 0.

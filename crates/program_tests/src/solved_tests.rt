@@ -1,5 +1,6 @@
 //! Answers of worked games.
 
+use crate::asserts::none_wrong;
 use crate::worked_games::{
     CORRIDOR, EMPTY, ENDLESS, Game, LIMITS, ONE_OPEN, ONE_POINT, Opened, TWO_OPEN, WITH_STONE,
     begun,
@@ -82,7 +83,11 @@ fn answers_in(opened: &mut Opened) -> Option<Answers> {
 
 /// The answers of a game, if it is solved.
 pub(crate) fn answers_of(alloc: Global, game: Game) -> Option<Answers> {
-    answers_in(&mut begun(alloc, game, LIMITS))
+    let mut opened = begun(alloc, game, LIMITS);
+    let answers = answers_in(&mut opened);
+    // A solved game is large: as a call its drop is one step of the proof.
+    drop(opened);
+    answers
 }
 
 /// A stone at the point of this number.
@@ -152,7 +157,7 @@ fn wrong_game(alloc: Global) -> Option<usize> {
 
 #[test]
 fn games(rt: HostRuntime) {
-    assert_eq!(rt; wrong_game(rt.alloc()), None);
+    none_wrong(&rt, wrong_game(rt.alloc()));
 }
 
 /// How a game is refused.
@@ -215,7 +220,10 @@ fn is_refused(alloc: Global, row: &Refusal) -> bool {
         parts: row.2,
         tax: false,
     };
-    is_refused_so(&begun(alloc, row.0, limits), row.3)
+    let opened = begun(alloc, row.0, limits);
+    let right = is_refused_so(&opened, row.3);
+    drop(opened);
+    right
 }
 
 /// The first row that isn't so.
@@ -230,7 +238,7 @@ fn wrong_refusal(alloc: Global) -> Option<usize> {
 
 #[test]
 fn refusals(rt: HostRuntime) {
-    assert_eq!(rt; wrong_refusal(rt.alloc()), None);
+    none_wrong(&rt, wrong_refusal(rt.alloc()));
 }
 
 /// Whether a game with one open point refuses two moves.
@@ -256,14 +264,22 @@ fn is_over(solved: &mut Solved) -> bool {
 }
 
 /// Whether a game that was begun is played so.
-fn is_played(opened: &mut Opened) -> bool {
+fn goes_so(opened: &mut Opened) -> bool {
     match &mut opened.result {
         Ok(solved) => refuses(solved) && goes_on(solved) && is_over(solved),
         Err(_) => false,
     }
 }
 
+/// Whether the game with one open point is.
+fn is_played(alloc: Global) -> bool {
+    let mut opened = begun(alloc, ONE_OPEN, LIMITS);
+    let right = goes_so(&mut opened);
+    drop(opened);
+    right
+}
+
 #[test]
 fn played(rt: HostRuntime) {
-    assert!(rt; is_played(&mut begun(rt.alloc(), ONE_OPEN, LIMITS)));
+    assert!(rt; is_played(rt.alloc()));
 }

@@ -1,5 +1,6 @@
 //! Files of the source.
 
+use crate::asserts::none_wrong;
 use crate::endings::{Ends, Wrong, is_ended};
 use crate::files::{COPY, ONE_POINT, TIE};
 use crate::play_tests::append;
@@ -144,7 +145,7 @@ static SOURCE_RUNS: [Row; 23] = [
 
 #[test]
 fn answers_files_of_the_source(rt: HostRuntime) {
-    assert_eq!(rt; first_wrong(rt.alloc(), &SOURCE_RUNS), None);
+    none_wrong(&rt, first_wrong(rt.alloc(), &SOURCE_RUNS));
 }
 
 /// Files of the source, and their chains.
@@ -172,7 +173,7 @@ static SOURCE_CHAINS: [Row; 4] = [
 
 #[test]
 fn says_which_chains_of_the_source_are_alive(rt: HostRuntime) {
-    assert_eq!(rt; first_wrong(rt.alloc(), &SOURCE_CHAINS), None);
+    none_wrong(&rt, first_wrong(rt.alloc(), &SOURCE_CHAINS));
 }
 
 /// How many trees are opened, what stands behind them, and the fault.
@@ -216,7 +217,7 @@ fn wrong_depth(alloc: Global) -> Option<usize> {
 
 #[test]
 fn a_tree_too_deep_is_refused(rt: HostRuntime) {
-    assert_eq!(rt; wrong_depth(rt.alloc()), None);
+    none_wrong(&rt, wrong_depth(rt.alloc()));
 }
 
 /// Adds a file of so many blanks to a shelf.
@@ -233,7 +234,11 @@ fn is_long_on(alloc: Global, outside: &mut Outside, len: usize, word: &str, ends
 /// The same where it is in the source too.
 fn is_long_in(alloc: Global, file: &[u8], word: &str, ends: Ends) -> bool {
     match outside_of(alloc, file, 5000, 100, NOTHING_FAILS) {
-        Ok(mut outside) => is_long_on(alloc, &mut outside, file.len(), word, ends),
+        Ok(mut outside) => {
+            let right = is_long_on(alloc, &mut outside, file.len(), word, ends);
+            drop(outside);
+            right
+        }
         Err(_error) => false,
     }
 }
@@ -283,17 +288,24 @@ fn is_deep_read(alloc: Global, file: &mut Vec<u8>) -> bool {
     append(file, b"(;", 524_288) == Ok(()) && is_read(alloc, file, ends, b"fault file too deep\n")
 }
 
+/// Whether both are.
+fn are_read(alloc: Global) -> bool {
+    is_long_read(alloc, &mut Vec::new(alloc)) && is_deep_read(alloc, &mut Vec::new(alloc))
+}
+
 #[test]
 fn long_files_are_read(rt: HostRuntime) {
-    let alloc = rt.alloc();
-    assert!(rt; is_long_read(alloc, &mut Vec::new(alloc)));
-    assert!(rt; is_deep_read(alloc, &mut Vec::new(alloc)));
+    assert!(rt; are_read(rt.alloc()));
 }
 
 /// Whether the saved game, replayed as the words say, ends so, and what is written begins so.
 fn is_replayed(alloc: Global, words: &[&str], ends: Ends, beginning: &[u8]) -> bool {
     match outside_of(alloc, COPY, 7, 500, NOTHING_FAILS) {
-        Ok(mut outside) => begins_so(alloc, words, &mut outside, ends, beginning),
+        Ok(mut outside) => {
+            let right = begins_so(alloc, words, &mut outside, ends, beginning);
+            drop(outside);
+            right
+        }
         Err(_error) => false,
     }
 }

@@ -1,5 +1,6 @@
 //! Games with a tax of two points for each group.
 
+use crate::asserts::none_wrong;
 use crate::endings::Ends;
 use crate::run_tests::TIE_TEXT;
 use crate::runs::{Row, first_wrong};
@@ -51,5 +52,5 @@ static TAXED: [Row; 10] = [
 
 #[test]
 fn groups_pay_at_the_start(rt: HostRuntime) {
-    assert_eq!(rt; first_wrong(rt.alloc(), &TAXED), None);
+    none_wrong(&rt, first_wrong(rt.alloc(), &TAXED));
 }

@@ -2,6 +2,7 @@
 
 ghost use Rattle.go_grid.specs.Chain.{IsSettled};
 
+use crate::asserts::none_wrong;
 use crate::endings::{Ends, Wrong};
 use crate::files::{TWICE, WALLS};
 use crate::run_tests::TIE_TEXT;
@@ -54,7 +55,7 @@ static UNMARKED: [Row; 9] = [
 
 #[test]
 fn declares_what_is_asked_for(rt: HostRuntime) {
-    assert_eq!(rt; first_wrong(rt.alloc(), &UNMARKED), None);
+    none_wrong(&rt, first_wrong(rt.alloc(), &UNMARKED));
 }
 
 const SEALED_BOARD: &str =
@@ -143,7 +144,7 @@ static SEALED: [Row; 11] = [
 
 #[test]
 fn declares_the_marks(rt: HostRuntime) {
-    assert_eq!(rt; first_wrong(rt.alloc(), &SEALED), None);
+    none_wrong(&rt, first_wrong(rt.alloc(), &SEALED));
 }
 
 const TERMS: Terms = Terms {
@@ -200,7 +201,7 @@ fn first_wrong_board(alloc: Global) -> Option<usize> {
 
 #[test]
 fn declared_points_have_letters(rt: HostRuntime) {
-    assert_eq!(rt; first_wrong_board(rt.alloc()), None);
+    none_wrong(&rt, first_wrong_board(rt.alloc()));
 }
 
 /// Texts of `safe`.
@@ -266,5 +267,5 @@ fn first_wrong_chains(alloc: Global) -> Option<usize> {
 
 #[test]
 fn declared_points_are_counted(rt: HostRuntime) {
-    assert_eq!(rt; first_wrong_chains(rt.alloc()), None);
+    none_wrong(&rt, first_wrong_chains(rt.alloc()));
 }

@@ -1,5 +1,6 @@
 //! What the program has to say is out before the opponent's next line is waited for.
 
+use crate::asserts::none_wrong;
 use crate::endings::{Ends, is_ended};
 use crate::files::shelf;
 use crate::runs::{NEVER, status_of, words_between};
@@ -190,5 +191,5 @@ fn wrong_talk(alloc: Global) -> Option<usize> {
 
 #[test]
 fn each_answer_is_out_before_the_next_read(rt: HostRuntime) {
-    assert_eq!(rt; wrong_talk(rt.alloc()), None);
+    none_wrong(&rt, wrong_talk(rt.alloc()));
 }

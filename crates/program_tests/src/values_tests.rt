@@ -1,5 +1,6 @@
 //! The values of files.
 
+use crate::asserts::none_wrong;
 use crate::endings::Ends;
 use crate::runs::{Row, first_wrong};
 
@@ -59,5 +60,5 @@ static VALUES: [Row; 10] = [
 
 #[test]
 fn values_of_files(rt: HostRuntime) {
-    assert_eq!(rt; first_wrong(rt.alloc(), &VALUES), None);
+    none_wrong(&rt, first_wrong(rt.alloc(), &VALUES));
 }

@@ -135,7 +135,7 @@ fn begin<L: Ledger>(
     }
 }
 
-/// What a game is begun as: solved, or refused. As a value of this crate its drop is one call.
+/// What a game is begun as: solved, or refused.
 #[derive(Drop)]
 pub(crate) struct Opened {
     pub result: Result<Solved, SolveError>,
