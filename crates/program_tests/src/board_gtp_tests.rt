@@ -57,6 +57,22 @@ const ANALYSED_TEXT: &str =
     = B3 D3 E3 F3 G3 J3 A2 B2 C2 D2 G2 H2 J2 K2 A1 B1 C1 D1 E1 F1 G1 H1 J1 K1\n\n= \n\n= \n\n= B+2\n\n= \n\n= \n\n= W+4.5\n\n\
     = side white\nkomi 6.5\nwinner white\nspend wins\nhalf wins\n\n= \n\n= 0\n\n= black\n\n= B2\n\n= \n\n";
 
+/// Analyses where kos can arise: margin and moves are told with them; the best stones, the line of play and the score are not.
+const KOS_ANALYSED: &[u8] =
+    b"loadsgf k\ngdsolve-margin b\n3 gdsolve-moves b\ngdsolve-moves w\ngdsolve-line b\ntop_moves_black\nfinal_score\n\
+    play b pass\ngdsolve-margin w\nloadsgf e\ngdsolve-moves w\nloadsgf d\ngdsolve-moves b\nboardsize 9\ngdsolve-moves b\n";
+
+const KOS_ANALYSED_TEXT: &str =
+    "= black\n\n= side black\nkomi -3\nwinner black\nblack first -1.5 2\nwhite first -1 -0.5\n\n\
+    =3 side black\nkomi -3\nwinner black\nstone F3 wins -1.5 2\nspend wins\n\n\
+    = side white\nkomi -3\nwinner black\nstone F3 loses -0.5 -0.5\nspend loses\n\n\
+    ? cannot solve: cycle E3 0 black:F3 white:E3\n\n? cannot solve: cycle E3 0 black:F3 white:E3\n\n\
+    ? cannot score: cycle E3 0 black:F3 white:E3\n\n= \n\n\
+    = side white\nkomi -3\nwinner black\nblack first -2.5 1\nwhite first -2 -1.5\n\n= black\n\n\
+    = side white\nkomi 0\nwinner none\nstone E2 none -1.5 2\nstone F2 loses 0 0\nspend loses\n\n= black\n\n\
+    = side black\nkomi 0\nwinner black\nstone E2 loses -0.5 -0.5\nstone F2 wins 1 1\nspend loses\n\n= \n\n\
+    ? cannot solve: region A9 points 81\n\n";
+
 /// Analyses that don't fit, of a position without a game, and what GoGui is offered.
 const UNFIT: &[u8] =
     b"top_moves_black b\ngdsolve-margin\nfinal_status_list x\nfinal_score\ngdsolve-line w\nloadsgf e\ntop_moves_white\nfinal_score\n\
@@ -80,7 +96,7 @@ const NO_SECOND_READ: Failing = Failing {
     ..NOTHING_FAILS
 };
 
-static SESSIONS: [FailingRow; 10] = [
+static SESSIONS: [FailingRow; 11] = [
     (
         "gtp~--board~yes",
         PLAYED,
@@ -112,6 +128,14 @@ static SESSIONS: [FailingRow; 10] = [
         NOTHING_FAILS,
         Ends::Done,
         UNFIT_TEXT,
+    ),
+    (
+        "gtp~--board~yes~--cycles~yes",
+        KOS_ANALYSED,
+        2_000,
+        NOTHING_FAILS,
+        Ends::Done,
+        KOS_ANALYSED_TEXT,
     ),
     (
         "gtp~--board~yes",
