@@ -37,14 +37,14 @@ engine_refused r a b loads unread same = record {
   read = λ e. absurd cc;
   write = λ e. absurd cc;
   written = told_written _ a.input.left (λ bytes is. (
-      [],
-      (
-        beginning r.start bytes,
-        (r.start, record { held = []; rest = bytes; same = refl; unread = refl; few = omega arith; source = unread ∙ is }),
-        (0, (refl, refl), omega arith),
-      ),
-      same ∙ nothing_behind a.holds,
-    ));
+    [],
+    (
+      beginning r.start bytes,
+      (r.start, record { held = []; rest = bytes; same = refl; unread = refl; few = omega arith; source = unread ∙ is }),
+      (0, (refl, refl), omega arith),
+    ),
+    same ∙ nothing_behind a.holds,
+  ));
 }
 
 stopped_whole : (r : SessionRules) (files : Option Files) (failing bytes : List ℕ) (left before now : Option (List ℕ)) (fault : Status) (text line : List ℕ) → IsEngineStopped r files failing bytes left fault text line
