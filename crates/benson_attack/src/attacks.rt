@@ -17,7 +17,7 @@ use go_grid::{Board, Colour, Point};
 use std::alloc::{AllocError, Global};
 
 /// How the stones of a board that aren't alive are taken by placings that nobody answers.
-#[derive(Debug, Drop)]
+#[derive(Drop)]
 pub struct Attacks {
     on_black: Campaign,
     on_white: Campaign,

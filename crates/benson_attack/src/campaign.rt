@@ -17,7 +17,7 @@ use std::alloc::{AllocError, Global};
 
 /// The boards that captures by one colour reach one after the other, until each stone of the other colour that
 /// stands is alive.
-#[derive(Debug, Drop)]
+#[derive(Drop)]
 pub(crate) struct Campaign {
     /// The colour that places.
     pub(crate) by: Colour,

@@ -11,7 +11,7 @@ use go_play::place;
 use std::alloc::{AllocError, Global};
 
 /// A board that unanswered placings of one colour reach, with the placings.
-#[derive(Debug, Drop)]
+#[derive(Drop)]
 pub(crate) struct Run {
     pub(crate) board: Board,
     pub(crate) placings: Vec<Point>,

@@ -21,14 +21,14 @@ use go_grid::{Board, Colour, Point, Points};
 use std::alloc::{AllocError, Global};
 
 /// What lives without answers of one colour (Benson 1976), and the points that are counted for it.
-#[derive(Debug, Drop)]
+#[derive(Drop)]
 pub struct Life {
     pub alive: Points,
     pub counted: Points,
 }
 
 /// What lives without answers on a board.
-#[derive(Debug, Drop)]
+#[derive(Drop)]
 pub struct Territory {
     pub black: Life,
     pub white: Life,

@@ -37,7 +37,7 @@ impl From<AllocError> for ShowError {
 }
 
 /// What is shown of a game: its named text, its stops and its thermograph.
-#[derive(Debug, Drop)]
+#[derive(Drop)]
 pub struct Showing {
     text: Text,
     left_stop: Dyadic,

@@ -7,7 +7,7 @@ use std::alloc::{AllocError, Global};
 use std::marker::Model;
 
 /// A board: its size, a cell for each of its points, and the colours for which points are declared.
-#[derive(Debug, Drop)]
+#[derive(Drop)]
 pub struct Board {
     size: Size,
     cells: Vec<Cell>,

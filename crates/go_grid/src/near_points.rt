@@ -61,7 +61,7 @@ pub fn neighbours(size: Size, point: Point) -> Near
 }
 
 /// The points next to a point, at most four.
-#[derive(Debug, Drop)]
+#[derive(Drop)]
 pub struct NearPoints {
     points: [Point; 4],
     number: usize,

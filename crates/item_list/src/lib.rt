@@ -7,7 +7,7 @@ use std::alloc::{AllocError, Global};
 use std::marker::Model;
 
 /// A list that grows. Contracts see it as the list of its items.
-#[derive(Debug, Drop)]
+#[derive(Drop)]
 pub struct ItemList<T> {
     items: Vec<T>,
 }

@@ -17,7 +17,7 @@ const ALL: u64 = 0x5555_5555_5555_5555;
 
 /// A set of places: place `i` is the bit `2i`, which in a position's number says that a black stone stands there. The
 /// bits between say nothing.
-#[derive(Clone, Copy, Debug)]
+#[derive(Clone, Copy)]
 pub(crate) struct Places(pub(crate) u64);
 
 impl Places {

@@ -5,7 +5,7 @@ use std::hash::Hash;
 
 /// The shape of a local position. Two positions have equal shapes exactly where one is the other turned, mirrored or with
 /// its colours exchanged.
-#[derive(Debug, PartialEq, Eq, Hash, Drop)]
+#[derive(PartialEq, Eq, Hash, Drop)]
 pub struct Shape {
     pub(crate) spots: Vec<Spot>,
 }
