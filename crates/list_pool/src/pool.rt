@@ -5,6 +5,7 @@ ghost use Rattle.list_pool.specs.inner.Pool.{left_over};
 use crate::chunk::Chunk;
 use crate::place::Place;
 use std::alloc::{AllocError, Global};
+use std::fmt;
 use std::marker::Model;
 
 /// For how many numbers a chunk has room, unless one list needs more.
@@ -114,5 +115,13 @@ impl ListPool {
     {
         self.reserve(items.len())?;
         Ok(self.push_reserved(items))
+    }
+}
+
+impl fmt::Debug for ListPool {
+    fn fmt<W: fmt::Write>(&self, f: &mut fmt::Formatter<W>) -> fmt::Result {
+        f.debug_struct("ListPool")
+            .field("len", &self.len())
+            .finish()
     }
 }
