@@ -1,6 +1,4 @@
 -- What loops and private calls keep; no public clause cites it.
-pub mod Breadth
-pub mod Components
 pub mod Found
 pub mod PlaceTable
 pub mod Searching

@@ -1,9 +1,5 @@
-//! Ways with the fewest moves, by breadth, and the cycle that comes soonest.
-
-ghost use Rattle.std.specs.Prelude.{◌≡◌, ◌<◌, length, IfOk, OnOk};
-ghost use Rattle.local_graph.specs.inner.Built.{IsRooted};
-ghost use Rattle.std.specs.List.{All};
-ghost use Rattle.local_graph.specs.inner.Breadth.{IsReady};
+//! Ways with the fewest moves, by breadth, and the cycle that comes soonest. Who shows what was found checks it, so no contract
+//! speaks of it here.
 
 use crate::components::on_cycles;
 use crate::edge_lists::EdgeLists;
@@ -13,7 +9,7 @@ use std::alloc::{AllocError, Global};
 /// A position that was met, the place of the step that it was met from, the number of the edge
 /// between them, and how many moves lead there.
 #[derive(Clone, Copy)]
-pub(crate) struct Step {
+struct Step {
     node: usize,
     from: usize,
     edge: usize,
@@ -40,9 +36,43 @@ fn set_mark(marks: &mut [bool], node: usize, mark: bool) {
     }
 }
 
+/// The step of a position that is met first.
+fn first_step(node: usize) -> Step {
+    Step {
+        node,
+        from: 0,
+        edge: 0,
+        moves: 0,
+    }
+}
+
+impl Step {
+    /// The step to a position along the edge with a number, from this one, which stands at a place.
+    fn next(self, at: usize, edge: usize, node: usize) -> Step {
+        Step {
+            node,
+            from: at,
+            edge,
+            moves: self.moves.saturating_add(1),
+        }
+    }
+
+    /// That the edge with a number, from this step at a place, leads to what was looked for.
+    fn found(self, at: usize, edge: usize) -> Found {
+        Found {
+            at,
+            last: Frame {
+                node: self.node,
+                left: edge,
+            },
+            moves: self.moves.saturating_add(1),
+        }
+    }
+}
+
 /// A search by breadth.
 #[derive(Drop)]
-pub(crate) struct Breadth {
+struct Breadth {
     steps: Vec<Step>,
     /// By position the round in which it was met last.
     rounds: Vec<usize>,
@@ -51,60 +81,70 @@ pub(crate) struct Breadth {
 
 impl Breadth {
     /// A search before its first round.
-    fn new(alloc: Global, edges: &EdgeLists) -> Result<Breadth, AllocError>
-        ensures { IfOk result (IsReady edges.now) }
-    {
+    fn new(alloc: Global, edges: &EdgeLists) -> Result<Breadth, AllocError> {
+        let rounds = vec![in alloc; 0; edges.len()]?;
         Ok(Breadth {
             steps: Vec::new(alloc),
-            rounds: vec![in alloc; 0; edges.len()]?,
+            rounds,
             round: 0,
         })
     }
 
+    /// Notes that a position is met in this round. Whether it wasn't met before.
+    fn enters(&mut self, node: usize) -> bool {
+        let Some(met) = self.rounds.get_mut(node) else {
+            return false;
+        };
+        let is_new = *met != self.round;
+        *met = self.round;
+        is_new
+    }
+
     /// Meets a position, if it wasn't met in this round.
-    fn meet(&mut self, edges: &EdgeLists, step: Step) -> Result<(), AllocError>
-        requires inside { step.node < length edges.now }
-        requires ready { IsReady edges.now self.old }
-        ensures { OnOk result (IsReady edges.now self.new) }
-    {
-        if self.rounds[step.node] != self.round {
-            self.rounds[step.node] = self.round;
+    fn meet(&mut self, step: Step) -> Result<(), AllocError> {
+        if self.enters(step.node) {
             self.steps.push(step)?;
         }
         Ok(())
     }
 
-    /// Follows the moves of the position at a place, but those to positions that are left out. The number
-    /// of the first that leads to a target.
-    #[tactic(auto, using(crate::proofs::PathLemmas::next_inside))]
+    /// Follows the moves of a step at a place, but those to positions that are left out. The number of the first that leads to a
+    /// target.
     fn follow(
         &mut self,
         edges: &EdgeLists,
         at: usize,
+        step: Step,
         left_out: &[bool],
         targets: &[bool],
-    ) -> Result<Option<usize>, AllocError>
-        requires rooted { IsRooted edges.now }
-        requires inside { at < length self.old.steps.items }
-        requires ready { IsReady edges.now self.old }
-        ensures { OnOk result (IsReady edges.now self.new) }
-    {
-        let step = self.steps[at];
-        'following: for (number, edge) in edges.at(step.node).iter().enumerate() {
-            if is_marked(targets, edge.next) {
+    ) -> Result<Option<usize>, AllocError> {
+        let moves = edges.any_at(step.node);
+        'following: for number in 0..moves.len() {
+            let next = moves[number].next;
+            if is_marked(targets, next) {
                 return Ok(Some(number));
             }
-            if !is_marked(left_out, edge.next) {
-                let next = Step {
-                    node: edge.next,
-                    from: at,
-                    edge: number,
-                    moves: step.moves.saturating_add(1),
-                };
-                self.meet(edges, next)?;
+            if !is_marked(left_out, next) {
+                self.meet(step.next(at, number, next))?;
             }
         }
         Ok(None)
+    }
+
+    /// The step at a place, if fewer moves lead there.
+    fn step_within(&self, at: usize, most: usize) -> Option<Step> {
+        let step = self.steps.get(at)?;
+        if step.moves >= most {
+            return None;
+        }
+        Some(*step)
+    }
+
+    /// Begins a round with a position.
+    fn begin(&mut self, from: usize) -> Result<(), AllocError> {
+        self.steps.clear();
+        self.round = self.round.saturating_add(1);
+        self.meet(first_step(from))
     }
 
     /// Meets the positions that at most so many moves lead to from one, without those that are left out, until
@@ -116,48 +156,25 @@ impl Breadth {
         left_out: &[bool],
         targets: &[bool],
         most: usize,
-    ) -> Result<Option<Found>, AllocError>
-        requires rooted { IsRooted edges.now }
-        requires inside { from < length edges.now }
-        requires ready { IsReady edges.now self.old }
-        ensures { OnOk result (IsReady edges.now self.new) }
-    {
-        self.steps.clear();
-        self.round = self.round.saturating_add(1);
-        let first = Step {
-            node: from,
-            from: 0,
-            edge: 0,
-            moves: 0,
-        };
-        self.meet(edges, first)?;
+    ) -> Result<Option<Found>, AllocError> {
+        self.begin(from)?;
         'spreading: for at in 0..usize::MAX {
-            let Some(step) = self.steps.get(at).copied() else {
+            let Some(step) = self.step_within(at, most) else {
                 break;
             };
-            if step.moves >= most {
-                break;
-            }
-            if let Some(edge) = self.follow(edges, at, left_out, targets)? {
-                return Ok(Some(Found {
-                    at,
-                    last: Frame {
-                        node: step.node,
-                        left: edge,
-                    },
-                    moves: step.moves.saturating_add(1),
-                }));
+            if let Some(edge) = self.follow(edges, at, step, left_out, targets)? {
+                return Ok(Some(step.found(at, edge)));
             }
         }
         Ok(None)
     }
 
     /// How many moves lead from the opening to the first position on a cycle.
-    fn moves_to_first(&mut self, edges: &EdgeLists, on_cycle: &[bool]) -> Result<usize, AllocError>
-        requires rooted { IsRooted edges.now }
-        requires ready { IsReady edges.now self.old }
-        ensures { OnOk result (IsReady edges.now self.new) }
-    {
+    fn moves_to_first(
+        &mut self,
+        edges: &EdgeLists,
+        on_cycle: &[bool],
+    ) -> Result<usize, AllocError> {
         if is_marked(on_cycle, 0) {
             return Ok(0);
         }
@@ -166,6 +183,31 @@ impl Breadth {
             None => Ok(0),
         }
     }
+
+    /// Meets the positions that as many moves lead to from the opening as to the first on a cycle, or fewer. How many these are.
+    fn spread_to_first(
+        &mut self,
+        edges: &EdgeLists,
+        on_cycle: &[bool],
+    ) -> Result<usize, AllocError> {
+        let moves = self.moves_to_first(edges, on_cycle)?;
+        self.spread(edges, 0, &[], &[], moves)?;
+        Ok(moves)
+    }
+}
+
+/// The place of the step before the one at a place, and its frame. None at the first.
+fn step_back(steps: &[Step], at: usize) -> Option<(usize, Frame)> {
+    let step = steps.get(at)?;
+    if step.moves == 0 {
+        return None;
+    }
+    let before = steps.get(step.from)?;
+    let frame = Frame {
+        node: before.node,
+        left: step.edge,
+    };
+    Some((step.from, frame))
 }
 
 /// Puts the frames of the way that the steps took to the one at a place behind others.
@@ -178,31 +220,15 @@ fn add_way(
     let mut way = Vec::new(alloc);
     let mut last = at;
     'going_back: for _move in 0..at {
-        let Some(step) = steps.get(last) else {
+        let Some((before, frame)) = step_back(steps, last) else {
             break;
         };
-        if step.moves == 0 {
-            break;
-        }
-        last = step.from;
-        let Some(before) = steps.get(last) else {
-            break;
-        };
-        way.push(Frame {
-            node: before.node,
-            left: step.edge,
-        })?;
+        last = before;
+        way.push(frame)?;
     }
     way.reverse();
     path.extend_from_slice(&way)?;
     Ok(())
-}
-
-/// Marks by position: which are left out of a search, and which it looks for.
-#[derive(Drop)]
-pub(crate) struct Marks {
-    left_out: Vec<bool>,
-    targets: Vec<bool>,
 }
 
 /// A path from the opening that returns to one of its positions.
@@ -211,6 +237,48 @@ pub(crate) struct RoundTrip {
     pub(crate) path: Vec<Frame>,
     /// The position that it returns to.
     pub(crate) node: usize,
+}
+
+impl RoundTrip {
+    /// How many moves a way around may have behind so many, if the whole is to have fewer than this path.
+    fn most_behind(&self, moves: usize) -> usize {
+        match self.path.len().checked_sub(1) {
+            Some(fewer) => fewer.saturating_sub(moves),
+            None => usize::MAX,
+        }
+    }
+
+    /// Takes the way of the opening's steps to the one at a place, and from there around by other steps.
+    fn take(
+        &mut self,
+        alloc: Global,
+        opening: &[Step],
+        at: usize,
+        around: &[Step],
+        found: Found,
+    ) -> Result<(), AllocError> {
+        self.path.clear();
+        add_way(alloc, &mut self.path, opening, at)?;
+        add_way(alloc, &mut self.path, around, found.at)?;
+        self.path.push(found.last)?;
+        Ok(())
+    }
+}
+
+/// Marks by position: which are left out of a search, and which it looks for.
+#[derive(Drop)]
+struct Marks {
+    left_out: Vec<bool>,
+    targets: Vec<bool>,
+}
+
+impl Marks {
+    /// No marks, for so many positions.
+    fn new(alloc: Global, count: usize) -> Result<Marks, AllocError> {
+        let left_out = vec![in alloc; false; count]?;
+        let targets = vec![in alloc; false; count]?;
+        Ok(Marks { left_out, targets })
+    }
 }
 
 /// The search for the path that returns soonest: the way around from a position, what is left out and looked for, and the
@@ -224,15 +292,11 @@ struct Returning {
 
 impl Returning {
     /// Before a position was tried.
-    fn new(alloc: Global, edges: &EdgeLists) -> Result<Returning, AllocError>
-        ensures { IfOk result (λ r. IsReady edges.now r.around) }
-    {
-        let marks = Marks {
-            left_out: vec![in alloc; false; edges.len()]?,
-            targets: vec![in alloc; false; edges.len()]?,
-        };
+    fn new(alloc: Global, edges: &EdgeLists) -> Result<Returning, AllocError> {
+        let around = Breadth::new(alloc, edges)?;
+        let marks = Marks::new(alloc, edges.len())?;
         Ok(Returning {
-            around: Breadth::new(alloc, edges)?,
+            around,
             marks,
             best: RoundTrip {
                 path: Vec::new(alloc),
@@ -247,12 +311,7 @@ impl Returning {
         edges: &EdgeLists,
         node: usize,
         most: usize,
-    ) -> Result<Option<Found>, AllocError>
-        requires rooted { IsRooted edges.now }
-        requires ready { IsReady edges.now self.old.around }
-        requires inside { node < length edges.now }
-        ensures { OnOk result (IsReady edges.now self.new.around) }
-    {
+    ) -> Result<Option<Found>, AllocError> {
         let marks = &mut self.marks;
         set_mark(&mut marks.targets, node, true);
         let found = self
@@ -262,52 +321,63 @@ impl Returning {
         Ok(found)
     }
 
-    /// Takes the way to a position and from there back to it for the best, if it is the first or has fewer moves.
+    /// Takes the way to a step at a place and from there back to its position for the best, if it is the first or has fewer moves.
     fn return_to(
         &mut self,
         alloc: Global,
         edges: &EdgeLists,
         opening: &[Step],
         at: usize,
-    ) -> Result<(), AllocError>
-        requires rooted { IsRooted edges.now }
-        requires ready { IsReady edges.now self.old.around }
-        requires at { at < length opening.now }
-        requires inside { All (λ s. s.node < length edges.now) opening.now }
-        ensures { OnOk result (IsReady edges.now self.new.around) }
-    {
-        let step = opening[at];
-        let most = match self.best.path.len().checked_sub(1) {
-            Some(fewer) => fewer.saturating_sub(step.moves),
-            None => usize::MAX,
-        };
+        step: Step,
+    ) -> Result<(), AllocError> {
+        let most = self.best.most_behind(step.moves);
         let Some(found) = self.way_around(edges, step.node, most)? else {
             return Ok(());
         };
-        self.best.path.clear();
-        add_way(alloc, &mut self.best.path, opening, at)?;
-        add_way(alloc, &mut self.best.path, &self.around.steps, found.at)?;
-        self.best.path.push(found.last)?;
         self.best.node = step.node;
+        self.best
+            .take(alloc, opening, at, &self.around.steps, found)
+    }
+
+    /// Tries the position of each step that so many moves lead to, where it is on a cycle. A position that was tried is left out
+    /// from then on.
+    fn try_all(
+        &mut self,
+        alloc: Global,
+        edges: &EdgeLists,
+        opening: &[Step],
+        on_cycle: &[bool],
+        moves: usize,
+    ) -> Result<(), AllocError> {
+        'returning: for at in 0..opening.len() {
+            let step = opening[at];
+            if step.moves == moves && is_marked(on_cycle, step.node) {
+                self.return_to(alloc, edges, opening, at, step)?;
+            }
+            set_mark(&mut self.marks.left_out, step.node, true);
+        }
         Ok(())
     }
 }
 
+/// Of the paths that return, the steps to whose position so many moves lead, one with the fewest moves.
+fn soonest_of(
+    alloc: Global,
+    edges: &EdgeLists,
+    opening: &[Step],
+    on_cycle: &[bool],
+    moves: usize,
+) -> Result<RoundTrip, AllocError> {
+    let mut returning = Returning::new(alloc, edges)?;
+    returning.try_all(alloc, edges, opening, on_cycle, moves)?;
+    Ok(returning.best)
+}
+
 /// Of the paths that return, one with the fewest moves before the position that returns, and of those one with
-/// the fewest moves: a position that was tried is left out from then on. It is looked for and not proved to be one: who shows it checks that it returns.
-pub(crate) fn soonest_return(alloc: Global, edges: &EdgeLists) -> Result<RoundTrip, AllocError>
-    requires { IsRooted edges.now }
-{
+/// the fewest moves. It is looked for and not proved to be one: who shows it checks that it returns.
+pub(crate) fn soonest_return(alloc: Global, edges: &EdgeLists) -> Result<RoundTrip, AllocError> {
     let on_cycle = on_cycles(alloc, edges)?;
     let mut breadth = Breadth::new(alloc, edges)?;
-    let moves = breadth.moves_to_first(edges, &on_cycle)?;
-    breadth.spread(edges, 0, &[], &[], moves)?;
-    let mut returning = Returning::new(alloc, edges)?;
-    'returning: for (at, step) in breadth.steps.iter().enumerate() {
-        if step.moves == moves && on_cycle[step.node] {
-            returning.return_to(alloc, edges, &breadth.steps, at)?;
-        }
-        set_mark(&mut returning.marks.left_out, step.node, true);
-    }
-    Ok(returning.best)
+    let moves = breadth.spread_to_first(edges, &on_cycle)?;
+    soonest_of(alloc, edges, &breadth.steps, &on_cycle, moves)
 }

@@ -1,17 +1,35 @@
-//! Which positions lie on cycles.
-
-ghost use Rattle.std.specs.Prelude.{◌≡◌, ◌<◌, ◌≤◌, length, IfOk, OnOk};
-ghost use Rattle.local_graph.specs.inner.Built.{IsRooted};
-ghost use Rattle.local_graph.specs.inner.Graph.{edges_at};
-ghost use Rattle.local_graph.specs.inner.Components.{IsUnderWay};
+//! Which positions lie on cycles. The cycle that is found by it is checked, so no contract speaks of it here.
 
 use crate::edge_lists::EdgeLists;
 use crate::search::Frame;
 use std::alloc::{AllocError, Global};
 
+/// The number of a position, or 0 where it has none.
+fn number_of(numbers: &[usize], node: usize) -> usize {
+    match numbers.get(node) {
+        Some(number) => *number,
+        None => 0,
+    }
+}
+
+/// Sets the number of a position.
+fn set_number(numbers: &mut [usize], node: usize, number: usize) {
+    if let Some(place) = numbers.get_mut(node) {
+        *place = number;
+    }
+}
+
+/// The frame with one move fewer to follow, and the position to which that move leads. None where all were followed.
+fn next_of(edges: &EdgeLists, frame: Frame) -> Option<(Frame, usize)> {
+    let left = frame.left.checked_sub(1)?;
+    let edge = edges.any_at(frame.node).get(left)?;
+    let node = frame.node;
+    Some((Frame { node, left }, edge.next))
+}
+
 /// A search by depth for strong components (Tarjan 1972).
 #[derive(Drop)]
-pub(crate) struct Components {
+struct Components {
     path: Vec<Frame>,
     /// The positions met whose components aren't told yet.
     waiting: Vec<usize>,
@@ -27,142 +45,107 @@ pub(crate) struct Components {
 }
 
 impl Components {
-    /// A search that has met the opening.
-    fn begin(alloc: Global, edges: &EdgeLists) -> Result<Components, AllocError>
-        requires { IsRooted edges.now }
-        ensures { IfOk result (IsUnderWay edges.now) }
-    {
-        let count = edges.len();
-        let mut components = Components {
+    /// A search before it has met a position.
+    fn new(alloc: Global, count: usize) -> Result<Components, AllocError> {
+        let numbers = vec![in alloc; 0; count]?;
+        let lowest = vec![in alloc; 0; count]?;
+        let on_cycle = vec![in alloc; false; count]?;
+        Ok(Components {
             path: Vec::new(alloc),
             waiting: Vec::new(alloc),
             met: 0,
-            numbers: vec![in alloc; 0; count]?,
-            lowest: vec![in alloc; 0; count]?,
-            on_cycle: vec![in alloc; false; count]?,
-        };
-        components.enter(edges, 0)?;
-        Ok(components)
+            numbers,
+            lowest,
+            on_cycle,
+        })
     }
 
     /// Meets a position.
-    fn enter(&mut self, edges: &EdgeLists, node: usize) -> Result<(), AllocError>
-        requires inside { node < length edges.now }
-        requires under_way { IsUnderWay edges.now self.old }
-        ensures { OnOk result (IsUnderWay edges.now self.new) }
-    {
+    fn enter(&mut self, edges: &EdgeLists, node: usize) -> Result<(), AllocError> {
         self.met = self.met.saturating_add(1);
-        self.numbers[node] = self.met;
-        self.lowest[node] = self.met;
+        set_number(&mut self.numbers, node, self.met);
+        set_number(&mut self.lowest, node, self.met);
         self.waiting.push(node)?;
-        self.path.push(Frame {
-            node,
-            left: edges.at(node).len(),
-        })?;
+        let left = edges.any_at(node).len();
+        self.path.push(Frame { node, left })?;
         Ok(())
     }
 
     /// Notes that the moves of a position lead to a number.
-    fn lower(&mut self, edges: &EdgeLists, node: usize, number: usize)
-        requires inside { node < length edges.now }
-        requires under_way { IsUnderWay edges.now self.old }
-        ensures { IsUnderWay edges.now self.new }
-    {
-        self.lowest[node] = self.lowest[node].min(number);
+    fn lower(&mut self, node: usize, number: usize) {
+        let lowest = number_of(&self.lowest, node).min(number);
+        set_number(&mut self.lowest, node, lowest);
     }
 
-    /// Follows the next move of the last position of the path.
-    #[tactic(auto, using(crate::proofs::PathLemmas::next_inside))]
-    fn follow(&mut self, edges: &EdgeLists, last: Frame) -> Result<(), AllocError>
-        requires rooted { IsRooted edges.now }
-        requires under_way { IsUnderWay edges.now self.old }
-        requires inside { last.node < length edges.now }
-        requires more { 0 < last.left }
-        requires left { last.left ≤ length (edges_at edges.now last.node) }
-        ensures { OnOk result (IsUnderWay edges.now self.new) }
-    {
-        let left = last.left - 1;
-        let next = edges.edge(last.node, left).next;
-        self.path.push(Frame {
-            node: last.node,
-            left,
-        })?;
-        if self.numbers[next] == 0 {
+    /// Follows a move from the last position of the path, whose frame is this from now on, to another.
+    fn follow(&mut self, edges: &EdgeLists, frame: Frame, next: usize) -> Result<(), AllocError> {
+        self.path.push(frame)?;
+        let number = number_of(&self.numbers, next);
+        if number == 0 {
             return self.enter(edges, next);
         }
-        let number = self.numbers[next];
-        self.lower(edges, last.node, number);
+        self.lower(frame.node, number);
         Ok(())
     }
 
     /// Tells the component of the position that waits last, which is alone in it or not.
-    fn tell_last(&mut self, edges: &EdgeLists, alone: bool) -> Option<usize>
-        requires under_way { IsUnderWay edges.now self.old }
-        ensures { IsUnderWay edges.now self.new }
-    {
+    fn tell_last(&mut self, alone: bool) -> Option<usize> {
         let member = self.waiting.pop()?;
-        self.numbers[member] = usize::MAX;
-        self.on_cycle[member] = !alone;
+        set_number(&mut self.numbers, member, usize::MAX);
+        if let Some(mark) = self.on_cycle.get_mut(member) {
+            *mark = !alone;
+        }
         Some(member)
     }
 
     /// Tells the component of a position that none of its moves led back behind.
-    fn tell(&mut self, edges: &EdgeLists, node: usize)
-        requires under_way { IsUnderWay edges.now self.old }
-        ensures { IsUnderWay edges.now self.new }
-    {
+    fn tell(&mut self, node: usize) {
         let alone = self.waiting.last() == Some(&node);
         'telling: for _member in 0..self.waiting.len() {
-            if self.tell_last(edges, alone) == Some(node) {
+            if self.tell_last(alone) == Some(node) {
                 return;
             }
         }
     }
 
     /// Leaves a position all of whose moves were followed.
-    fn leave(&mut self, edges: &EdgeLists, node: usize)
-        requires inside { node < length edges.now }
-        requires under_way { IsUnderWay edges.now self.old }
-        ensures { IsUnderWay edges.now self.new }
-    {
-        if self.lowest[node] == self.numbers[node] {
-            self.tell(edges, node);
+    fn leave(&mut self, node: usize) {
+        let lowest = number_of(&self.lowest, node);
+        if lowest == number_of(&self.numbers, node) {
+            self.tell(node);
         }
         if let Some(before) = self.path.last().copied() {
-            let number = self.lowest[node];
-            self.lower(edges, before.node, number);
+            self.lower(before.node, lowest);
         }
     }
 
-    /// Follows a move of the last position of the path, or leaves it. None where the path is empty.
-    fn step(&mut self, edges: &EdgeLists) -> Result<Option<()>, AllocError>
-        requires rooted { IsRooted edges.now }
-        requires under_way { IsUnderWay edges.now self.old }
-        ensures { OnOk result (IsUnderWay edges.now self.new) }
-    {
+    /// Follows a move of the last position of the path, or leaves it. Whether there was one.
+    fn step(&mut self, edges: &EdgeLists) -> Result<bool, AllocError> {
         let Some(last) = self.path.pop() else {
-            return Ok(None);
+            return Ok(false);
         };
-        if last.left > 0 {
-            self.follow(edges, last)?;
-        } else {
-            self.leave(edges, last.node);
+        match next_of(edges, last) {
+            Some((frame, next)) => self.follow(edges, frame, next)?,
+            None => self.leave(last.node),
         }
-        Ok(Some(()))
+        Ok(true)
+    }
+
+    /// Meets all positions, from the opening on.
+    fn meet_all(&mut self, edges: &EdgeLists) -> Result<(), AllocError> {
+        self.enter(edges, 0)?;
+        'meeting: for _step in 0..u64::MAX {
+            if !self.step(edges)? {
+                break;
+            }
+        }
+        Ok(())
     }
 }
 
-/// By position whether it lies on a cycle. It decides nothing that a contract says: the cycle that is found by it is
-/// checked.
-pub(crate) fn on_cycles(alloc: Global, edges: &EdgeLists) -> Result<Vec<bool>, AllocError>
-    requires { IsRooted edges.now }
-    ensures { IfOk result (λ marks. length marks.items ≡ length edges.now) }
-{
-    let mut components = Components::begin(alloc, edges)?;
-    'meeting: for _step in 0..u64::MAX {
-        if components.step(edges)?.is_none() {
-            break;
-        }
-    }
+/// By position whether it lies on a cycle.
+pub(crate) fn on_cycles(alloc: Global, edges: &EdgeLists) -> Result<Vec<bool>, AllocError> {
+    let mut components = Components::new(alloc, edges.len())?;
+    components.meet_all(edges)?;
     Ok(components.on_cycle)
 }

@@ -7,14 +7,14 @@ use crate::graph::Edge;
 use std::marker::Model;
 
 /// Where a list stands: from `start` on, and before `end`.
-#[derive(Clone, Copy, Debug)]
+#[derive(Clone, Copy)]
 pub(crate) struct Span {
     pub(crate) start: usize,
     pub(crate) end: usize,
 }
 
 /// The edges of each position.
-#[derive(Debug, Drop)]
+#[derive(Drop)]
 pub(crate) struct EdgeLists {
     edges: Vec<Edge>,
     spans: Vec<Span>,
@@ -55,6 +55,14 @@ impl EdgeLists {
     {
         let span = self.spans[place];
         &self.edges[span.start..span.end]
+    }
+
+    /// The list at a place, or none past the last.
+    pub(crate) fn any_at(&self, place: usize) -> &[Edge] {
+        if place < self.len() {
+            return self.at(place);
+        }
+        &[]
     }
 
     /// The edge with a number in the list at a place.

@@ -20,7 +20,7 @@ pub struct Edge {
 }
 
 /// All positions that local moves reach from an opening, and their moves.
-#[derive(Debug, Drop)]
+#[derive(Drop)]
 pub struct Graph {
     positions: Vec<u64>,
     edges: EdgeLists,

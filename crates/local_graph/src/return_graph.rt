@@ -21,7 +21,7 @@ use std::marker::Model;
 use std::sync::ledger::Ledger;
 
 /// What tells which moves return, where there is a cycle.
-#[derive(Debug, Drop)]
+#[derive(Drop)]
 pub(crate) struct Returning {
     /// By position the number of its component.
     components: Vec<usize>,
@@ -29,7 +29,7 @@ pub(crate) struct Returning {
 }
 
 /// All positions that local moves reach from an opening, their moves, and which of these return.
-#[derive(Debug, Drop)]
+#[derive(Drop)]
 pub struct ReturnGraph {
     /// With the order for Black, which is one for White too where no move returns.
     graph: Graph,
