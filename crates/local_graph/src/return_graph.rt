@@ -24,7 +24,7 @@ use std::sync::ledger::Ledger;
 #[derive(Drop)]
 pub(crate) struct Returning {
     /// By position the number of its component.
-    components: Vec<usize>,
+    components: Vec<u32>,
     white_order: Vec<usize>,
 }
 

@@ -18,9 +18,9 @@ pub(crate) const MOST_WEIGHT: usize = MOST_PLACES * (MOST_PLACES + 2);
 /// What a position is sorted by: its component, and in it the one that weighs most comes first.
 #[derive(Clone, Copy, PartialEq, Eq, PartialOrd, Ord)]
 pub(crate) struct Rank {
-    component: usize,
+    component: u32,
     /// How much less it weighs than the most.
-    lack: usize,
+    lack: u32,
     place: usize,
 }
 
@@ -50,7 +50,7 @@ fn stones_of(cells: &[Cell; MOST_PLACES], colour: Colour) -> usize
 }
 
 /// The rank of the position at a place.
-fn rank_of(position: u64, component: usize, place: usize, colour: Colour) -> Rank
+fn rank_of(position: u64, component: u32, place: usize, colour: Colour) -> Rank
     ensures { IsRank colour position component place result }
 {
     let cells = Local(position).cells();
@@ -58,7 +58,7 @@ fn rank_of(position: u64, component: usize, place: usize, colour: Colour) -> Ran
     let own = stones_of(&cells, colour);
     Rank {
         component,
-        lack: MOST_WEIGHT - ((MOST_PLACES + 1) * others + own),
+        lack: (MOST_WEIGHT - ((MOST_PLACES + 1) * others + own)) as u32,
         place,
     }
 }
@@ -67,7 +67,7 @@ fn rank_of(position: u64, component: usize, place: usize, colour: Colour) -> Ran
 fn ranks(
     alloc: Global,
     positions: &[u64],
-    components: &[usize],
+    components: &[u32],
     colour: Colour,
 ) -> Result<Vec<Rank>, AllocError>
     requires { length components.now ≡ length positions.now }
@@ -96,7 +96,7 @@ fn places_of(alloc: Global, ranks: &[Rank]) -> Result<Vec<usize>, AllocError>
 pub(crate) fn order_between_captures(
     alloc: Global,
     positions: &[u64],
-    components: &[usize],
+    components: &[u32],
     colour: Colour,
 ) -> Result<Vec<usize>, AllocError>
     requires { length components.now ≡ length positions.now }

@@ -186,33 +186,44 @@ impl ComponentSearch {
     }
 }
 
-/// The number of a component that was told.
-fn number_of(mark: Mark) -> usize
-    ensures { (n : ℕ) → mark ≡ Told n → result ≡ n }
+/// A number in four bytes, or want of memory.
+fn narrow(number: usize) -> Result<u32, AllocError>
+    ensures { IfOk result (λ narrow. narrow ≡ number) }
+{
+    if number > u32::MAX as usize {
+        return Err(AllocError);
+    }
+    Ok(number as u32)
+}
+
+/// The number of a component that was told. Want of memory where it doesn't fit in four bytes, which only more positions than
+/// a limit allows would need.
+fn number_of(mark: Mark) -> Result<u32, AllocError>
+    ensures { IfOk result (λ number. (n : ℕ) → mark ≡ Told n → number ≡ n) }
 {
     match mark {
-        Mark::Told(number) => number,
-        Mark::Waiting(_at) => 0,
-        Mark::New => 0,
+        Mark::Told(number) => narrow(number),
+        Mark::Waiting(_at) => Ok(0),
+        Mark::New => Ok(0),
     }
 }
 
 /// The numbers of the components that were told.
-fn numbers_of(alloc: Global, marks: &[Mark]) -> Result<Vec<usize>, AllocError>
+fn numbers_of(alloc: Global, marks: &[Mark]) -> Result<Vec<u32>, AllocError>
     ensures long { IfOk result (λ numbers. length numbers.items ≡ length marks.now) }
     ensures told { IfOk result (λ numbers. (i n : ℕ) → mark_at marks.now i ≡ Told n
         → slice_index numbers.items i ≡ n) }
 {
     let mut numbers = Vec::new(alloc);
     for mark in marks {
-        numbers.push(number_of(*mark))?;
+        numbers.push(number_of(*mark)?)?;
     }
     Ok(numbers)
 }
 
 /// By position the number of its component: two have one number exactly where moves lead from each to the other, and no
 /// move leads to a greater number.
-pub(crate) fn strong_components(alloc: Global, edges: &EdgeLists) -> Result<Vec<usize>, AllocError>
+pub(crate) fn strong_components(alloc: Global, edges: &EdgeLists) -> Result<Vec<u32>, AllocError>
     requires { IsRooted edges.now }
     ensures { IfOk result (λ numbers. AreComponents edges.now numbers.items) }
 {
