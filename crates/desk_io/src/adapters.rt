@@ -8,7 +8,7 @@ use crate::{Failed, Sink, Source};
 use std::io::{ErrorKind, Read, Write};
 
 /// A source over a reader. It tells no text.
-#[derive(Debug, Drop)]
+#[derive(Drop)]
 pub struct StdSource<R: Read + Drop> {
     reader: R,
     faults: u64,
@@ -49,7 +49,7 @@ impl<R: Read + Drop> Source for StdSource<R> {
 }
 
 /// A sink over a writer, flushed at each write. It tells no content.
-#[derive(Debug, Drop)]
+#[derive(Drop)]
 pub struct StdSink<W: Write + Drop> {
     writer: W,
     faults: u64,

@@ -7,7 +7,7 @@ use std::alloc::{AllocError, Global};
 use std::marker::Model;
 
 /// Counts the calls of an object, and tells those that are to fail by their numbers, from 0.
-#[derive(Debug, Drop)]
+#[derive(Drop)]
 pub(crate) struct CallCounter {
     next: u64,
     failing: Vec<u64>,

@@ -9,7 +9,7 @@ use std::fs;
 use std::rt::Files;
 
 /// The files of the system. It tells no map, and a missing file is `Failed`.
-#[derive(Debug, Drop)]
+#[derive(Drop)]
 pub struct FileShelf<'a, R: Files> {
     rt: &'a R,
     faults: u64,

@@ -12,7 +12,7 @@ use std::marker::Model;
 pub const MOST_LINES: usize = 10_000;
 
 /// How long a line is, and how many bytes it takes with its line feed.
-#[derive(Clone, Copy, Debug)]
+#[derive(Clone, Copy)]
 pub struct FoundLine {
     pub line: usize,
     pub taken: usize,
@@ -20,7 +20,7 @@ pub struct FoundLine {
 
 /// Takes a source apart into lines of at most `MOST` bytes. It holds the bytes that were read and not yet used, at most
 /// `MOST`. Contracts see the list of them.
-#[derive(Debug, Drop)]
+#[derive(Drop)]
 pub struct LineReader<const MOST: usize> {
     bytes: [u8; MOST],
     len: usize,

@@ -10,7 +10,7 @@ use std::alloc::{AllocError, Global};
 use std::marker::Model;
 
 /// A source that tells its text. Reads fail only where they are told to.
-#[derive(Debug, Drop)]
+#[derive(Drop)]
 pub struct MemorySource {
     bytes: Vec<u8>,
     at: usize,
@@ -75,7 +75,7 @@ impl Source for MemorySource {
 }
 
 /// A sink that tells what it has got. Writes fail where they are told to, and where a piece doesn't fit.
-#[derive(Debug, Drop)]
+#[derive(Drop)]
 pub struct MemorySink {
     bytes: Vec<u8>,
     room: usize,
