@@ -8,7 +8,7 @@ use go_grid::Colour;
 
 /// Who owns the half-point that a komi leaves. The owner's move on it removes it; the opponent's removes it and leaves
 /// the owner a point.
-#[derive(Clone, Copy, PartialEq, Eq, Debug)]
+#[derive(Clone, Copy, PartialEq, Eq)]
 pub enum Token {
     Nobody,
     Black,
@@ -29,7 +29,7 @@ impl Token {
 }
 
 /// What the two players may still spend, in points, and who owns the half-point.
-#[derive(Clone, Copy, Debug)]
+#[derive(Clone, Copy)]
 pub struct Purses {
     pub black: u64,
     pub white: u64,

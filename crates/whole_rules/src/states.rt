@@ -13,7 +13,7 @@ use std::marker::Model;
 use thiserror::Error;
 
 /// What a player may do in their turn.
-#[derive(Clone, Copy, PartialEq, Eq, Debug)]
+#[derive(Clone, Copy, PartialEq, Eq)]
 pub enum Move {
     /// Places a stone on a contested point. Each stone that it takes adds a point to the mover's purse.
     Stone(Point),
@@ -45,7 +45,7 @@ pub enum MoveError {
 
 /// A state of the whole game: a board, the points that were contested at the opening, two purses in points, the token
 /// of a half-point and the side to move. The players move in turn, and one who has no move loses.
-#[derive(Debug, Drop)]
+#[derive(Drop)]
 pub struct Whole {
     board: Board,
     contested: Points,
