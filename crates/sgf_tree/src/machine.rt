@@ -5,7 +5,7 @@ ghost use Rattle.sgf_tree.specs.Grammar.{is_white};
 ghost use Rattle.sgf_tree.specs.inner.Machine.{kind_of, outside, inside, token_at, place_after};
 
 /// What a byte is outside of values.
-#[derive(Clone, Copy, Debug, PartialEq, Eq)]
+#[derive(Clone, Copy)]
 pub(crate) enum Kind {
     Opening,
     Closing,
@@ -17,7 +17,7 @@ pub(crate) enum Kind {
 }
 
 /// Where the reading is: before the tree, behind a `(`, and so on to behind the tree's `)`.
-#[derive(Clone, Copy, Debug, PartialEq, Eq)]
+#[derive(Clone, Copy)]
 pub(crate) enum Place {
     Start,
     Opened,
@@ -32,7 +32,7 @@ pub(crate) enum Place {
 }
 
 /// What a byte is at its place.
-#[derive(Clone, Copy, Debug, PartialEq, Eq)]
+#[derive(Clone, Copy)]
 pub(crate) enum Token {
     White,
     Begin,
