@@ -2,13 +2,14 @@
 
 ghost use Rattle.std.specs.Prelude.{◌≡◌, ◌^◌, ◌<◌, ◌≤◌, ◌↔◌, true, length, IfOk};
 ghost use Rattle.whole_rules.specs.Purses.{purse, taken_out};
-ghost use Rattle.whole_rules.specs.WholeGame.{Applies, IsLegal, ListsMoves, IsFirstMove};
+ghost use Rattle.whole_rules.specs.WholeGame.{Applies, IsContestedPoint, IsLegal, ListsMoves, IsFirstMove};
 ghost use Rattle.whole_rules.specs.inner.WholeGame.{MovesBelow};
 
 use crate::money::{Purses, Token};
 use go_grid::{Board, Colour, MOST_POINTS, Point, Points};
 use go_play::{PlaceError, allowed, place};
 use std::alloc::{AllocError, Global};
+use std::fmt;
 use std::marker::Model;
 use thiserror::Error;
 
@@ -24,7 +25,7 @@ pub enum Move {
 }
 
 /// Why a move is refused.
-#[derive(Clone, Copy, PartialEq, Eq, Debug, Error)]
+#[derive(Clone, Copy, PartialEq, Eq, Error)]
 pub enum MoveError {
     /// The point isn't a contested point of the board.
     #[error("not contested")]
@@ -41,6 +42,13 @@ pub enum MoveError {
     /// Nobody owns a token.
     #[error("no half")]
     NoHalf,
+}
+
+// As the message: what a derive writes is dearer to prove.
+impl fmt::Debug for MoveError {
+    fn fmt<W: fmt::Write>(&self, f: &mut fmt::Formatter<W>) -> fmt::Result {
+        fmt::Display::fmt(self, f)
+    }
 }
 
 /// A state of the whole game: a board, the points that were contested at the opening, two purses in points, the token
@@ -219,13 +227,20 @@ impl Whole {
         None
     }
 
+    /// Whether a point of the board is contested.
+    fn is_contested_point(&self, point: Point) -> bool
+        ensures { (result ≡ true) ↔ IsContestedPoint self.now point }
+    {
+        point.0 < self.board.size().area() && self.contested(point)
+    }
+
     /// Puts a stone of the side to move.
     fn put(&mut self, point: Point) -> Result<(), MoveError>
         requires black { self.old.purses.black < 2 ^ 62 }
         requires white { self.old.purses.white < 2 ^ 62 }
         ensures { Applies self.old (Stone point) self.new result }
     {
-        if point.0 >= self.board.size().area() || !self.contested(point) {
+        if !self.is_contested_point(point) {
             return Err(MoveError::NotContested);
         }
         match place(&mut self.board, point, self.side) {
