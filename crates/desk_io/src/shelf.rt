@@ -5,6 +5,7 @@ ghost use Rattle.desk_io.specs.Files.{FailsByCount, Files, Loads, told_file};
 ghost use Rattle.desk_io.specs.declared.shelf.LoadError.TheVariants.{Memory};
 
 use std::alloc::AllocError;
+use std::fmt;
 use thiserror::Error;
 
 /// How much of a file was loaded: all of it, or the first bytes up to the limit of a longer one.
@@ -15,7 +16,7 @@ pub enum Loaded {
 }
 
 /// Why a load was refused. `Absent` comes only from a shelf that tells its files and has none of that name.
-#[derive(Debug, Drop, PartialEq, Eq, Error)]
+#[derive(Drop, PartialEq, Eq, Error)]
 pub enum LoadError {
     #[error("no such file")]
     Absent,
@@ -23,6 +24,13 @@ pub enum LoadError {
     Failed,
     #[error(transparent)]
     Memory(AllocError),
+}
+
+// As the message: what a derive writes is dearer to prove.
+impl fmt::Debug for LoadError {
+    fn fmt<W: fmt::Write>(&self, f: &mut fmt::Formatter<W>) -> fmt::Result {
+        fmt::Display::fmt(self, f)
+    }
 }
 
 impl From<AllocError> for LoadError {
