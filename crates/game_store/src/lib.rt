@@ -35,14 +35,14 @@ pub type GameId = u64;
 
 /// What a store keeps of a form: a number, or the place of its options in the pool, the Left ones first, and how many
 /// of them are Left's.
-#[derive(Clone, Copy, Debug)]
+#[derive(Clone, Copy)]
 pub enum Entry {
     Number(Dyadic),
     Options { place: usize, left_count: usize },
 }
 
 /// An entry, the id before it with the same fingerprint, and the form's floor and ceiling.
-#[derive(Clone, Copy, Debug)]
+#[derive(Clone, Copy)]
 pub struct Slot {
     entry: Entry,
     before: Option<u64>,
@@ -51,14 +51,14 @@ pub struct Slot {
 }
 
 /// A form that a store lends: a number, or the ids of its options, which ascend.
-#[derive(Clone, Copy, Debug)]
+#[derive(Clone, Copy)]
 pub enum Form<'a> {
     Number(Dyadic),
     Options { left: &'a [u64], right: &'a [u64] },
 }
 
 /// Canonical forms, each under an id. Contracts see it as the list of their trees.
-#[derive(Debug, Drop)]
+#[derive(Drop)]
 pub struct Store {
     slots: Vec<Slot>,
     pool: ListPool,

@@ -13,7 +13,7 @@ pub(crate) const MULTIPLIER: u64 = 0x9E37_79B9_7F4A_7C15;
 const FEWEST_SLOTS: usize = 256;
 
 /// The hash of a place, and the link to the place that was entered before it in the same slot.
-#[derive(Clone, Copy, Debug)]
+#[derive(Clone, Copy)]
 pub(crate) struct Link {
     pub(crate) hash: u32,
     pub(crate) before: u32,

@@ -15,7 +15,7 @@ const MOST_FORMS: usize = 1 << 16;
 const MOST_OPTIONS: usize = 1 << 24;
 
 /// Where the options of a form stand in the pool, from `start` on and before `end`, and the form's id.
-#[derive(Clone, Copy, Debug)]
+#[derive(Clone, Copy)]
 pub(crate) struct KnownForm {
     pub(crate) start: u32,
     pub(crate) end: u32,

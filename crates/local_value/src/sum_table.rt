@@ -12,7 +12,7 @@ use std::marker::Model;
 const MOST_SUMS: usize = 1 << 16;
 
 /// A game, so many stones to the good of Black, and their sum.
-#[derive(Clone, Copy, Debug)]
+#[derive(Clone, Copy)]
 pub(crate) struct KnownSum {
     pub(crate) game: GameId,
     pub(crate) sum: GameId,

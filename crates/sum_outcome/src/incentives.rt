@@ -16,7 +16,7 @@ use lru::LruCache;
 use std::alloc::Global;
 
 /// Two moves: from a game to an option, and from another game to an option of that.
-#[derive(Clone, Copy, Debug, PartialEq, Eq, Hash)]
+#[derive(Clone, Copy, PartialEq, Eq, Hash)]
 pub(crate) struct MovePair {
     pub(crate) game: GameId,
     pub(crate) option: GameId,
@@ -29,7 +29,7 @@ type Answers = LruCache<MovePair, bool>;
 
 /// What is known of incentives: answers, of which the latest that were used stay, and comparisons of sums, which tell the
 /// next ones sooner.
-#[derive(Debug, Drop)]
+#[derive(Drop)]
 pub(crate) struct Incentives {
     pub(crate) answers: Answers,
     pub(crate) comparisons: SumComparisons,

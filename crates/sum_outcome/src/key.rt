@@ -13,7 +13,7 @@ use std::alloc::Global;
 
 /// The games of a sum that are no numbers, in ascending order, what the numbers add up to in parts of 2^-60, and whether
 /// Black is to move. Sums that differ by order alone, or by where numbers stand, have the same key.
-#[derive(Debug, PartialEq, Eq, Hash, Drop)]
+#[derive(PartialEq, Eq, Hash, Drop)]
 pub(crate) struct Key {
     games: Vec<GameId>,
     number: i128,

@@ -29,7 +29,7 @@ pub const MOST_ENTRIES: usize = 1_000_000;
 
 /// A search of sums, which remembers who loses those that it has decided. Contracts see how many it may remember, and what it
 /// remembers.
-#[derive(Debug, Drop)]
+#[derive(Drop)]
 pub struct Search {
     memo: Memo,
 }

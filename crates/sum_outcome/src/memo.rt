@@ -72,7 +72,7 @@ fn keep(sums: &mut Sums, held: &mut Vec<u8>, alloc: Global, key: Key, lost: bool
 }
 
 /// Who loses sums, and which moves are as good as others. Of each the latest that were used stay.
-#[derive(Debug, Drop)]
+#[derive(Drop)]
 pub(crate) struct Memo {
     pub(crate) sums: Sums,
     pub(crate) incentives: Incentives,

@@ -20,7 +20,7 @@ use game_store::{GameId, Store};
 use std::alloc::{AllocError, Global};
 
 /// The thermograph of a game: its walls, its mean, and its temperature, which exactly a number lacks.
-#[derive(Debug, Drop)]
+#[derive(Drop)]
 pub struct Thermograph {
     pub left: Wall,
     pub right: Wall,
