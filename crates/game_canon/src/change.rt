@@ -6,6 +6,7 @@ ghost use Rattle.short_games.specs.TextOrder.{IsCanonicalTree};
 ghost use Rattle.short_games.specs.Tree.{tree_at};
 ghost use Rattle.short_games.specs.Number.{number_tree};
 ghost use Rattle.game_store.specs.Meaning.{Extends};
+ghost use Rattle.game_canon.specs.Reachable.{AreReachable};
 ghost use Rattle.game_canon.specs.inner.Changes.{IsPastShift, shifted, left_list, right_list, IsChanged, AreNoted, AreKnown, IsMapped, AreClosed, AreDone, IsRefusedAt, IsRefused};
 
 use crate::errors::FormError;
@@ -112,10 +113,13 @@ fn changed_form(
     ensures kept { Extends store.old store.new }
 {
     match store.node(id) {
-        Form::Number(y) => Ok(changed_number(store, change, y)?),
+        Form::Number(y) => changed_number(store, change, y),
         Form::Options { left, right } => {
-            let lists = changed_lists(alloc, changed, change, left, right)?;
-            Ok(store.intern(&lists.left, &lists.right)?)
+            let made = {
+                let lists = changed_lists(alloc, changed, change, left, right)?;
+                store.intern(&lists.left, &lists.right)
+            };
+            Ok(made?)
         }
     }
 }
@@ -151,6 +155,30 @@ fn change_all(
     Ok(())
 }
 
+/// The canonical form of a form after the change, where no form is changed yet that it is made of, which these ids name.
+fn change_reached(
+    alloc: Global,
+    store: &mut Store,
+    changed: &mut Changed,
+    change: &Change,
+    a: GameId,
+    ids: &[GameId],
+) -> Result<GameId, FormError>
+    requires id { a < length store.old }
+    requires reached { AreReachable store.old (tree_at store.old a) ids.now }
+    ensures value { IfOk result (λ id. IsChanged store.new change.now (tree_at store.old a) id) }
+    ensures refusal { IfErr result (λ error. IsRefused change.now (tree_at store.old a) error) }
+    ensures kept { Extends store.old store.new }
+{
+    let _count = store.len();
+    change_all(alloc, store, changed, change, ids)?;
+    match changed.get(&a).copied() {
+        Some(after) => Ok(after),
+        // The game itself is the last of its followers.
+        None => unreachable!(),
+    }
+}
+
 /// The canonical form of a form after the change. `Bounds` exactly where one of its numbers goes past the bounds.
 pub(crate) fn change_form(
     alloc: Global,
@@ -167,10 +195,5 @@ pub(crate) fn change_form(
     let _count = store.len();
     let ids = reachable(alloc, store, a)?;
     let mut changed = Changed::new(alloc);
-    change_all(alloc, store, &mut changed, &change, &ids)?;
-    match changed.get(&a).copied() {
-        Some(after) => Ok(after),
-        // The game itself is the last of its followers.
-        None => unreachable!(),
-    }
+    change_reached(alloc, store, &mut changed, &change, a, &ids)
 }

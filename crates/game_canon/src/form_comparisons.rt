@@ -14,7 +14,7 @@ const MOST: usize = 1 << 18;
 
 /// Comparisons of forms of a store. Contracts see them as the pairs of ids, each with whether the first game is at most the
 /// second.
-#[derive(Debug, Drop)]
+#[derive(Drop)]
 pub struct FormComparisons {
     pub(crate) known: Comparisons,
 }

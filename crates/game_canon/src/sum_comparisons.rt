@@ -11,7 +11,7 @@ use std::marker::Model;
 
 /// Comparisons of sums of two games of a store. Contracts see them as the pairs of sums, each with whether the first is at
 /// most the second.
-#[derive(Debug, Drop)]
+#[derive(Drop)]
 pub struct SumComparisons {
     pub(crate) known: SumAnswers,
 }

@@ -11,7 +11,7 @@ use indexmap::IndexMap;
 use std::alloc::AllocError;
 
 /// Two sums of two games each: of the first two, and of the last two.
-#[derive(Clone, Copy, Debug, PartialEq, Eq, Hash)]
+#[derive(Clone, Copy, PartialEq, Eq, Hash)]
 pub(crate) struct SumPair {
     pub(crate) first: GameId,
     pub(crate) second: GameId,

@@ -1,27 +1,7 @@
-use Rattle.std.proofs.Common.{◌∙◌, sym, subst, nat_eq}
-use Rattle.std.proofs.lemmas.Result.{err_from_is_err_and}
-use Rattle.indexmap.specs.IndexMap.{get}
+use Rattle.std.proofs.Common.{sym, subst}
 use Rattle.short_games.specs.Tree.{tree_at}
 use Rattle.game_canon.specs.Reachable.{AreReachable}
-use Rattle.game_canon.specs.inner.Changes.{IsRefused}
-use Rattle.game_canon.proofs.ChangedIdLaws.{passed-on, not-none, reachable-closed, root-noted, root-is, all-refused}
 use Rattle.game_canon.proofs.change.change_form.Goals as goal
 
-there : (c : goal.After-deref) → AreReachable c.args.store.now (tree_at c.args.store.now c.args.a) c.deref.result.now
-there c = subst (AreReachable c.args.store.now (tree_at c.args.store.now c.args.a)) (sym c.deref.ensures) c.in_ok-ids.ensures
-
-pub change_all-requires : goal.change_all-requires
-change_all-requires c = record { closed = reachable-closed c.args.store.now _ c.deref.result.now (there c) }
-
-pub unreachable-requires : goal.unreachable-requires
-unreachable-requires c =
-    let r = root-noted c.args.store.now c.change_all.new.store c.args.a c.deref.result.now c.args.change (get nat_eq c.change_all.new.changed) c.len-count.ensures.distinct c.requires (subst (AreReachable c.args.store.now (tree_at c.args.store.now c.args.a)) (sym c.deref.ensures) c.in_ok-ids.ensures) c.in_ok-change_all.ensures.done in
-    not-none r.0 (get nat_eq c.change_all.new.changed c.args.a) r.1 (sym c.get.ensures.value ∙ sym c.copied.ensures ∙ c.in-None.is)
-
-pub returns-clause-value : goal.returns-clause-value
-returns-clause-value c = root-is c.args.store.now c.change_all.new.store c.args.a c.in-Some.after c.deref.result.now c.args.change (get nat_eq c.change_all.new.changed) c.len-count.ensures.distinct c.requires (subst (AreReachable c.args.store.now (tree_at c.args.store.now c.args.a)) (sym c.deref.ensures) c.in_ok-ids.ensures) c.in_ok-change_all.ensures.done
-    (sym c.get.ensures.value ∙ sym c.copied.ensures ∙ c.in-Some.is)
-
-pub returns-in_err-change_all-clause-refusal : goal.returns-in_err-change_all-clause-refusal
-returns-in_err-change_all-clause-refusal c = passed-on c.from_residual-in_err-change_all.result _ (IsRefused c.args.change (tree_at c.args.store.now c.args.a)) (err_from_is_err_and c.from_residual-in_err-change_all.result c.from_residual-in_err-change_all.ensures.1)
-    (all-refused c.args.store.now (tree_at c.args.store.now c.args.a) c.deref.result.now c.args.change _ (subst (AreReachable c.args.store.now (tree_at c.args.store.now c.args.a)) (sym c.deref.ensures) c.in_ok-ids.ensures) c.in_err-change_all.ensures.refusal)
+pub change_reached-requires-clause-reached : goal.change_reached-requires-clause-reached
+change_reached-requires-clause-reached c = subst (AreReachable c.args.store.now (tree_at c.args.store.now c.args.a)) (sym c.deref.ensures) c.in_ok-ids.ensures
