@@ -9,12 +9,12 @@ pub loop-mark-preserved : goal.loop-mark-preserved
 loop-mark-preserved c =
     let so_far = c.loop-mark.invariant in
     let xs = c.loop-mark.numbers.items in
-    let x = c.number_of.result in
+    let x = c.in_ok-number_of.field-0 in
     let pushed = c.in_ok-push.ensures.items in
     record {
       long = omega (arith, ap length pushed, length_push xs x, so_far.long);
       told = λ i n lt e. below_more (λ i. (n : ℕ) → mark_at c.args.marks.now i ≡ Told n → get_or c.push.new.self.items i 0 ≡ n) c.loop-mark.mark-index
           (λ i lt n e. ap (λ l. get_or l i 0) pushed ∙ get_or_append_left xs (x ∷ []) 0 i (omega (arith, lt, so_far.long)) ∙ so_far.told i n lt e)
-          (λ n e. ap (λ j. get_or c.push.new.self.items j 0) (sym so_far.long) ∙ ap (λ l. get_or l (length xs) 0) pushed ∙ get_or-append_seam xs x [] 0 ∙ c.number_of.ensures n e)
+          (λ n e. ap (λ j. get_or c.push.new.self.items j 0) (sym so_far.long) ∙ ap (λ l. get_or l (length xs) 0) pushed ∙ get_or-append_seam xs x [] 0 ∙ c.in_ok-number_of.ensures {u = tt} n e)
           i lt n e;
     }
