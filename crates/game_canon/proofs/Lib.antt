@@ -20,3 +20,4 @@ pub mod SumBoundLaws
 pub mod SumQuestionLaws
 pub mod SumCancellingLaws
 pub mod WaitingLaws
+pub mod AnswerLaws

@@ -4,7 +4,8 @@ ghost use Rattle.std.specs.Prelude.{ℕ, ◌≡◌, ◌<◌, ◌+◌, ◌^◌, l
 ghost use Rattle.short_games.specs.Number.{IsNumber};
 ghost use Rattle.short_games.specs.Threshold.{IsFloor, IsCeiling};
 ghost use Rattle.short_games.specs.Tree.{tree_at};
-ghost use Rattle.game_store.specs.Meaning.{listed, AreIds, Extends};
+ghost use Rattle.short_games.specs.TextOrder.{IsCanonicalTree};
+ghost use Rattle.game_store.specs.Meaning.{form, listed, AreIds, Extends, IsAscending, IsIdOf};
 ghost use Rattle.short_games.specs.Parts.{HasMoreParts};
 ghost use Rattle.game_canon.specs.FormComparisons.{AreFormComparisonsRight};
 ghost use Rattle.game_canon.specs.Outcomes.{IsCanonicalId, AreWithin, AreOptionsWithin, IsPastBounds, IsCause};
@@ -17,6 +18,34 @@ use crate::thresholds::{Value, number_value};
 use dyadic_num::EXPONENT;
 use game_store::{Bound, GameId, Store};
 use std::alloc::Global;
+
+/// Stores the canonical form with these options, which is no number, unless it has too many parts.
+fn entered(
+    alloc: Global,
+    store: &mut Store,
+    left: &[GameId],
+    right: &[GameId],
+    parts_limit: u32,
+) -> Result<GameId, FormError>
+    requires left_ids { AreIds store.old left.now }
+    requires right_ids { AreIds store.old right.now }
+    requires left_ascends { IsAscending left.now }
+    requires right_ascends { IsAscending right.now }
+    requires left_some { 0 < length left.now }
+    requires right_some { 0 < length right.now }
+    requires canonical { IsCanonicalTree (form store.old left.now right.now) }
+    requires no_number { IsNumber (form store.old left.now right.now) → ⊥ }
+    ensures value { IfOk result (λ id. IsIdOf store.new (form store.old left.now right.now) id) }
+    ensures parts { IfOk result (λ id. HasMoreParts (tree_at store.new id) parts_limit → ⊥) }
+    ensures refusal { IfErr result (λ error. IsCause
+        (form store.old left.now right.now) parts_limit error) }
+    ensures kept { Extends store.old store.new }
+{
+    if has_more_parts(alloc, store, left, right, parts_limit)? {
+        return Err(FormError::Parts);
+    }
+    Ok(store.intern(left, right)?)
+}
 
 /// The canonical form of a form that is no number, with its floor and its ceiling.
 fn reduced_form(
@@ -50,10 +79,7 @@ fn reduced_form(
     let known = &mut comparisons.known;
     let lists = reduced(alloc, store, known, left, right, floor, ceiling)?;
     let _count = store.len();
-    if has_more_parts(alloc, store, &lists.left, &lists.right, parts_limit)? {
-        return Err(FormError::Parts);
-    }
-    Ok(store.intern(&lists.left, &lists.right)?)
+    entered(alloc, store, &lists.left, &lists.right, parts_limit)
 }
 
 /// The canonical form of the form with these options, as `canonical` makes it, where comparisons are remembered from form
@@ -84,18 +110,16 @@ pub fn canonical_with(
     match number_value(store, left, right) {
         Value::Number(x) => Ok(store.number(x)?),
         Value::PastBounds => Err(FormError::Bounds),
-        Value::NoNumber { floor, ceiling } => {
-            Ok(reduced_form(
-                alloc,
-                store,
-                comparisons,
-                left,
-                right,
-                floor,
-                ceiling,
-                parts_limit,
-            )?)
-        }
+        Value::NoNumber { floor, ceiling } => reduced_form(
+            alloc,
+            store,
+            comparisons,
+            left,
+            right,
+            floor,
+            ceiling,
+            parts_limit,
+        ),
     }
 }
 

@@ -62,7 +62,7 @@ fn changed_list(alloc: Global, changed: &Changed, ids: &[GameId]) -> Result<Ids,
             None => unreachable!(),
         }
     }
-    Ok(in_order(alloc, &found)?)
+    in_order(alloc, &found)
 }
 
 /// The options of a changed form.

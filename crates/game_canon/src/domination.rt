@@ -132,8 +132,7 @@ pub(crate) fn best_in_order(
     ensures known { IsKnown games.now (recalled memo.new) }
 {
     let undominated = undominated(alloc, memo, games, side, free, ids)?;
-    let sorted = in_order(alloc, &undominated)?;
-    Ok(sorted)
+    in_order(alloc, &undominated)
 }
 
 /// The best of the games for the side, in ascending order of their ids.
@@ -151,6 +150,5 @@ pub(crate) fn best(
     ensures known { IsKnown games.now (recalled memo.new) }
 {
     let different = in_order(alloc, ids)?;
-    let best = best_in_order(alloc, memo, games, side, &[], &different)?;
-    Ok(best)
+    best_in_order(alloc, memo, games, side, &[], &different)
 }

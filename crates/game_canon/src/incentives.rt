@@ -32,7 +32,7 @@ pub fn incentive_at_least(
         (tree_at store.now game) (tree_at store.now option))) }
 {
     let mut comparisons = SumComparisons::new(alloc);
-    let answer = compare_incentives(
+    compare_incentives(
         alloc,
         &mut comparisons,
         store,
@@ -40,8 +40,7 @@ pub fn incentive_at_least(
         option,
         other,
         other_option,
-    )?;
-    Ok(answer)
+    )
 }
 
 /// The same as `incentive_at_least`, with comparisons that were remembered from earlier questions. They have to be right
@@ -72,6 +71,5 @@ pub fn compare_incentives(
         fourth: other,
     };
     make_room(&mut comparisons.known);
-    let answer = sums_at_most(alloc, &mut comparisons.known, store, cancelled(pair))?;
-    Ok(answer)
+    sums_at_most(alloc, &mut comparisons.known, store, cancelled(pair))
 }

@@ -59,8 +59,7 @@ fn reach(
         add_inner(store, found, id)?;
         place += 1;
     }
-    let reached = in_order(alloc, found.as_slice())?;
-    Ok(reached)
+    in_order(alloc, found.as_slice())
 }
 
 /// The form, its parts and their options, in ascending order of their ids: options come before the form.

@@ -111,8 +111,7 @@ fn best_lists(
 {
     let none = nothing_known(alloc);
     let stored = games_of(store, &none.known);
-    let lists = best_of_both(alloc, memo, &stored, left, right)?;
-    Ok(lists)
+    best_of_both(alloc, memo, &stored, left, right)
 }
 
 /// The options of a form that is no number, in ascending order, of which none is dominated or reversible any more. The
@@ -141,6 +140,5 @@ pub(crate) fn reduced(
     let standing = Standing { floor, ceiling };
     let games = games_beside(store, memo, &lists.left, &lists.right, &standing);
     let mut beside = nothing_known(alloc);
-    let reduced = bypass_all(alloc, &mut beside.known, &games, &lists.left, &lists.right)?;
-    Ok(reduced)
+    bypass_all(alloc, &mut beside.known, &games, &lists.left, &lists.right)
 }

@@ -64,7 +64,7 @@ fn answer_to(
     match games.store.node(id) {
         Form::Number(_) => Ok(None),
         Form::Options { left, right } => {
-            Ok(first_covered(alloc, memo, games, side, far_of(side, left, right))?)
+            first_covered(alloc, memo, games, side, far_of(side, left, right))
         }
     }
 }

@@ -56,8 +56,8 @@ pub(crate) fn is_covered(
     ensures known { IsKnown games.now (recalled memo.new) }
 {
     match side {
-        Side::Left => Ok(at_most(alloc, memo, games, a, b)?),
-        Side::Right => Ok(at_most(alloc, memo, games, b, a)?),
+        Side::Left => at_most(alloc, memo, games, a, b),
+        Side::Right => at_most(alloc, memo, games, b, a),
     }
 }
 
@@ -78,7 +78,7 @@ pub(crate) fn form_covers(
 {
     let form = games.store.len();
     match side {
-        Side::Left => Ok(at_most(alloc, memo, games, id, form)?),
-        Side::Right => Ok(at_most(alloc, memo, games, form, id)?),
+        Side::Left => at_most(alloc, memo, games, id, form),
+        Side::Right => at_most(alloc, memo, games, form, id),
     }
 }

@@ -1,5 +1,7 @@
 use Rattle.std.proofs.Common.{ℕ, List, sym, ◌∙◌, subst, nat_eq, get_or, arith}
+use Rattle.std.proofs.lemmas.Result.{IfOk-weaker}
 use Rattle.indexmap.specs.IndexMap.{get}
+use Rattle.std.specs.Prelude.{IfOk}
 use Rattle.game_canon.specs.inner.Ids.{IsInOrder}
 use Rattle.game_canon.proofs.ChangedIdLaws.{not-none, mapping-start, mapping-push, mapping-end}
 use Rattle.game_canon.proofs.change.changed_list.Goals as goal
@@ -15,5 +17,5 @@ loop-id-preserved c = mapping-push (get nat_eq c.args.changed.now) c.args.ids.no
     (sym c.get.ensures.value ∙ sym c.copied.ensures ∙ c.in-Some.is) c.in_ok-push-in-Some.ensures.ok
 
 pub returns : goal.returns
-returns c = mapping-end (get nat_eq c.args.changed.now) c.args.ids.now c.loop-id.found.items c.in_ok-in_order.field-0.items c.loop-id.id-index c.loop-id.invariant (omega (arith, c.loop-id-test.false))
-    (subst (λ (z : List ℕ). IsInOrder z c.in_ok-in_order.field-0.items) c.deref.ensures c.in_ok-in_order.ensures)
+returns c = IfOk-weaker c.in_order.result _ _ (λ v. mapping-end (get nat_eq c.args.changed.now) c.args.ids.now c.loop-id.found.items v.items c.loop-id.id-index c.loop-id.invariant (omega (arith, c.loop-id-test.false)))
+    (subst (λ (z : List ℕ). IfOk c.in_order.result (λ v. IsInOrder z v.items)) c.deref.ensures c.in_order.ensures)

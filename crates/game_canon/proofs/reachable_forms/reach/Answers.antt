@@ -1,4 +1,6 @@
 use Rattle.std.proofs.Common.{◌<◌, ◌≤◌, List, ℕ, length, get_or, arith, sym, subst, [], ◌∷◌, ap}
+use Rattle.std.proofs.lemmas.Result.{IfOk-weaker}
+use Rattle.std.specs.Prelude.{IfOk}
 use Rattle.short_games.specs.Tree.{Has, tree_at}
 use Rattle.game_store.specs.Meaning.{pick}
 use Rattle.game_canon.specs.inner.Ids.{IsInOrder}
@@ -33,7 +35,7 @@ add_inner-requires c =
     subst (λ i. i < length c.args.store.now) (ap (λ (z : List ℕ). get_or z c.following.place 0) (sym c.as_slice.ensures.keys)) (c.following.invariant.ids c.following.place l)
 
 pub returns : goal.returns
-returns c = reaching-end c.args.store.now (tree_at c.args.store.now c.args.a) c.following.found.keys _ c.following.place
+returns c = IfOk-weaker c.in_order.result _ _ (λ _. reaching-end c.args.store.now (tree_at c.args.store.now c.args.a) c.following.found.keys _ c.following.place
     c.following.invariant
-    (omega (arith, c.len.ensures.len, c.following-test.false))
-    (subst (λ (z : List ℕ). IsInOrder z c.in_ok-reached.reached.items) c.as_slice-2.ensures.keys c.in_ok-reached.ensures)
+    (omega (arith, c.len.ensures.len, c.following-test.false)))
+    (subst (λ (z : List ℕ). IfOk c.in_order.result (λ v. IsInOrder z v.items)) c.as_slice-2.ensures.keys c.in_order.ensures)

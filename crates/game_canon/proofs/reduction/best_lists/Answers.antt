@@ -1,4 +1,5 @@
 use Rattle.std.proofs.Common.{sym, subst}
+use Rattle.std.specs.Prelude.{IfOk}
 use Rattle.game_store.specs.Meaning.{AreIds}
 use Rattle.game_canon.specs.Comparisons.{AreRight}
 use Rattle.game_canon.specs.inner.Comparisons.{recalled}
@@ -16,8 +17,8 @@ pub best_of_both-requires-clause-right : goal.best_of_both-requires-clause-right
 best_of_both-requires-clause-right c = subst (λ Us. AreIds Us c.args.right.now) (sym c.games_of-stored.ensures.store) c.requires.right
 
 pub returns-clause-starts : goal.returns-clause-starts
-returns-clause-starts c = subst (λ Us. StartsWith Us c.args.left.now c.args.right.now c.in_ok-lists.lists.left.items
-    c.in_ok-lists.lists.right.items) c.games_of-stored.ensures.store c.in_ok-lists.ensures.starts
+returns-clause-starts c = subst (λ Us. IfOk c.best_of_both.result (λ lists. StartsWith Us c.args.left.now c.args.right.now
+    lists.left.items lists.right.items)) c.games_of-stored.ensures.store c.best_of_both.ensures.starts
 
 pub best_of_both-requires-clause-known : goal.best_of_both-requires-clause-known
 best_of_both-requires-clause-known c = record {
@@ -27,8 +28,4 @@ best_of_both-requires-clause-known c = record {
 
 pub returns-clause-memo : goal.returns-clause-memo
 returns-clause-memo c = subst (λ Us. AreRight Us (recalled c.best_of_both.new.memo)) c.games_of-stored.ensures.trees
-    c.best_of_both.ensures.known.right
-
-pub returns-in_err-lists-clause-memo : goal.returns-in_err-lists-clause-memo
-returns-in_err-lists-clause-memo c = subst (λ Us. AreRight Us (recalled c.best_of_both.new.memo)) c.games_of-stored.ensures.trees
     c.best_of_both.ensures.known.right

@@ -1,4 +1,5 @@
 use Rattle.std.proofs.Common.{◌∙◌, ap, sym, subst}
+use Rattle.std.proofs.lemmas.Result.{IfOk-weaker}
 use Rattle.game_canon.specs.Comparisons.{AreRight}
 use Rattle.game_canon.specs.inner.Comparisons.{recalled}
 use Rattle.game_canon.proofs.CanonicalFormLaws.{known-beside, reduced-beside, right-empty}
@@ -20,5 +21,5 @@ pub returns-clause-reduced : goal.returns-clause-reduced
 returns-clause-reduced c =
     let f = c.games_beside-games.ensures.form in
     let s = c.in_ok-lists.ensures.starts in
-    reduced-beside c.args.store.now c.games_beside-games.result f.0 _ c.in_ok-lists.lists.left.items c.in_ok-lists.lists.right.items
-    c.games_beside-games.ensures.store f.1 (f.2 ∙ c.deref.ensures) (f.3 ∙ c.deref-2.ensures) s.same s.among _ _ c.in_ok-reduced.ensures
+    IfOk-weaker c.bypass_all.result _ _ (λ _. reduced-beside c.args.store.now c.games_beside-games.result f.0 _ c.in_ok-lists.lists.left.items c.in_ok-lists.lists.right.items
+    c.games_beside-games.ensures.store f.1 (f.2 ∙ c.deref.ensures) (f.3 ∙ c.deref-2.ensures) s.same s.among _ _) c.bypass_all.ensures
