@@ -1,13 +1,13 @@
 -- What calls have answered of the games that are compared, said of the store, and the other way round.
-use Rattle.std.proofs.Common.{ℕ, ◌+◌, ◌<◌, ◌≡◌, ◌↔◌, List, [], ◌∷◌, length, arith, sym, subst, Bool, Some, None}
+use Rattle.std.proofs.Common.{ℕ, ◌+◌, ◌<◌, ◌≡◌, ◌↔◌, List, [], ◌∷◌, length, get_or, take, drop, arith, sym, subst, Bool, Some, None}
 use Rattle.std.specs.Prelude.{Option, IsTrue, IfSome, IfNone, Result, Ok, Err, IfErr}
-use Rattle.std.proofs.lemmas.List.{length-append}
+use Rattle.std.proofs.lemmas.List.{length-append, length-take, length-drop, get_or-take, get_or-drop}
 use Rattle.short_games.specs.Tree.{Tree, tree_at}
 use Rattle.short_games.specs.Number.{IsNumber, IsNumberTree}
 use Rattle.short_games.specs.Order.{◌≤ᵍ◌}
 use Rattle.short_games.specs.TextOrder.{IsCanonicalTree, IsCanonicalFor}
 use Rattle.short_games.proofs.OrderLaws.{le-refl}
-use Rattle.game_store.specs.Meaning.{form}
+use Rattle.game_store.specs.Meaning.{form, AreIds}
 use Rattle.game_canon.specs.declared.errors.FormError.{FormError}
 use Rattle.game_canon.specs.declared.errors.FormError.TheVariants.{Parts, Bounds, Memory}
 use Rattle.game_canon.specs.declared.games.Unstored.{Unstored}
@@ -53,3 +53,10 @@ cause-made G F limit (Ok id) n k h = tt
 cause-made G F limit (Err Parts) n k h = too-many G F limit n k (h.1 F (itself F k.canonical))
 cause-made G F limit (Err Bounds) n k h = absurd (made-not G F n k h.0)
 cause-made G F limit (Err (Memory cause)) n k h = tt
+
+-- ids of a list that is lent, up to a place and from there on
+pub ids-front : (Ts : List Tree) (all ds xs : List ℕ) (n : ℕ) → xs ≡ take n ds → ds ≡ all → AreIds Ts all → AreIds Ts xs
+ids-front Ts all ds xs n e d ids = subst (AreIds Ts) (sym e) (λ j l. subst (λ z. z < length Ts) (sym (get_or-take n ds j 0 (omega (arith, l, length-take n ds)))) (subst (AreIds Ts) (sym d) ids j (omega (arith, l, length-take n ds))))
+
+pub ids-back : (Ts : List Tree) (all ds xs : List ℕ) (n : ℕ) → xs ≡ drop n ds → ds ≡ all → AreIds Ts all → AreIds Ts xs
+ids-back Ts all ds xs n e d ids = subst (AreIds Ts) (sym e) (λ j l. subst (λ z. z < length Ts) (sym (get_or-drop n ds j 0)) (subst (AreIds Ts) (sym d) ids (n + j) (omega (arith, l, length-drop n ds))))

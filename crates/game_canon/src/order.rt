@@ -15,7 +15,7 @@ use game_store::{GameId, Store};
 use std::alloc::{AllocError, Global};
 
 /// How two games compare.
-#[derive(Clone, Copy, Debug, PartialEq, Eq)]
+#[derive(Clone, Copy, PartialEq, Eq)]
 pub enum Order {
     Less,
     Equal,

@@ -1,6 +1,7 @@
 use Rattle.std.proofs.Common.{ℕ, List, length, take, ◌-◌, ◌∙◌, ap, sym, subst}
 use Rattle.game_store.specs.Meaning.{pick}
 use Rattle.game_canon.specs.inner.Sides.{AreBest, AreFree}
+use Rattle.game_canon.proofs.AnswerLaws.{ids-front, ids-back}
 use Rattle.game_canon.proofs.GameLaws.{beside-no_number}
 use Rattle.game_canon.proofs.ReductionLaws.{smaller-from}
 use Rattle.game_canon.proofs.SideLaws.{parted, rest-free}
@@ -21,3 +22,21 @@ returns-in_ok-best_in_order-in-Some-clause-found c =
     (subst (λ (z : List ℕ). AreBest c.args.side c.args.games.now.store.now z c.in_ok-best_in_order-in-Some.field-0.items)
     (parted c.in_ok-all-in-Some.all.items c.deref.result.now c.split_at.result.0.now c.split_at.result.1.now (length c.args.ids.now - 1) c.split_at.ensures.front c.split_at.ensures.back c.deref.ensures) c.in_ok-best_in_order-in-Some.ensures.best)
     c.in_ok-best_in_order-in-Some.ensures.ascends
+
+pub best_in_order-requires-clause-known : goal.best_in_order-requires-clause-known
+best_in_order-requires-clause-known c = c.reversible.ensures.known
+
+pub best_in_order-requires-clause-free_ids : goal.best_in_order-requires-clause-free_ids
+best_in_order-requires-clause-free_ids c = ids-front c.args.games.now.store.now c.in_ok-all-in-Some.all.items c.deref.result.now _ _ c.split_at.ensures.front c.deref.ensures c.in_ok-all-in-Some.ensures.replaced.ids
+
+pub best_in_order-requires-clause-ids : goal.best_in_order-requires-clause-ids
+best_in_order-requires-clause-ids c = ids-back c.args.games.now.store.now c.in_ok-all-in-Some.all.items c.deref.result.now _ _ c.split_at.ensures.back c.deref.ensures c.in_ok-all-in-Some.ensures.replaced.ids
+
+pub returns-in_err-all-in-Some-clause-known : goal.returns-in_err-all-in-Some-clause-known
+returns-in_err-all-in-Some-clause-known c = c.reversible.ensures.known
+
+pub returns-in_err-best_in_order-in-Some-clause-known : goal.returns-in_err-best_in_order-in-Some-clause-known
+returns-in_err-best_in_order-in-Some-clause-known c = c.best_in_order.ensures.known
+
+pub returns-in_ok-best_in_order-in-Some-clause-known : goal.returns-in_ok-best_in_order-in-Some-clause-known
+returns-in_ok-best_in_order-in-Some-clause-known c = c.best_in_order.ensures.known
