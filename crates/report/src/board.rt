@@ -10,7 +10,7 @@ use go_grid::{Board, Cell, Colour, Point, Size};
 use std::alloc::{AllocError, Global};
 
 /// What a position has beside its board: the side to move, the komi in half-points, and the stones that each side has taken.
-#[derive(Clone, Copy, Debug, PartialEq, Eq)]
+#[derive(Clone, Copy)]
 pub struct Terms {
     pub side: Colour,
     pub komi_halves: i64,

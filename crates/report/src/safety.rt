@@ -233,21 +233,33 @@ fn lines_text(
     Ok(Text::from(text))
 }
 
-/// The text of `safe` for a settled board: a line for each chain, alive or open (Benson 1976), behind each open one
-/// a line with placings that take it, one for each counted region, one for the number of groups of each colour, and
-/// one for each region of play.
-pub fn safe_text(alloc: Global, board: &Board) -> Result<Text, AllocError>
-    requires { IsSettled board.now }
+/// The lines of the chains of a settled board with this territory.
+fn chains_beside(
+    alloc: Global,
+    board: &Board,
+    territory: &Territory,
+) -> Result<Vec<ChainLine>, AllocError>
+    requires settled { IsSettled board.now }
+    requires territory { IsTerritory board.now territory.now }
+    ensures { IfOk result (λ chains. AreChainLines board.now chains.items) }
+{
+    let attacks = Attacks::of(alloc, board, territory)?;
+    chain_lines(alloc, board, &attacks)
+}
+
+/// The text of `safe` for a settled board with this territory. What is large is made late, so that few calls can fail
+/// beside it.
+fn territory_text(alloc: Global, board: &Board, territory: &Territory) -> Result<Text, AllocError>
+    requires settled { IsSettled board.now }
+    requires territory { IsTerritory board.now territory.now }
     ensures { IfOk result (λ text. IsSafeText board.now text) }
 {
-    let territory = Territory::of(alloc, board)?;
-    let regions = cut_territory(alloc, board, &territory)?;
-    let attacks = Attacks::of(alloc, board, &territory)?;
-    let chains = chain_lines(alloc, board, &attacks)?;
-    let (black, white) = (&territory.black.counted, &territory.white.counted);
-    let counted = counted_lines(alloc, board, black, white)?;
-    let black_groups = territory.black.groups(alloc, board, Colour::Black)?;
-    let white_groups = territory.white.groups(alloc, board, Colour::White)?;
+    let (black, white) = (&territory.black, &territory.white);
+    let black_groups = black.groups(alloc, board, Colour::Black)?;
+    let white_groups = white.groups(alloc, board, Colour::White)?;
+    let counted = counted_lines(alloc, board, &black.counted, &white.counted)?;
+    let chains = chains_beside(alloc, board, territory)?;
+    let regions = cut_territory(alloc, board, territory)?;
     lines_text(
         alloc,
         board,
@@ -257,4 +269,15 @@ pub fn safe_text(alloc: Global, board: &Board) -> Result<Text, AllocError>
         white_groups,
         &regions,
     )
+}
+
+/// The text of `safe` for a settled board: a line for each chain, alive or open (Benson 1976), behind each open one
+/// a line with placings that take it, one for each counted region, one for the number of groups of each colour, and
+/// one for each region of play.
+pub fn safe_text(alloc: Global, board: &Board) -> Result<Text, AllocError>
+    requires { IsSettled board.now }
+    ensures { IfOk result (λ text. IsSafeText board.now text) }
+{
+    let territory = Territory::of(alloc, board)?;
+    territory_text(alloc, board, &territory)
 }

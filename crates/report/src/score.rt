@@ -9,7 +9,7 @@ use std::alloc::{AllocError, Global};
 
 /// What there is to say of the score: so many half-points to Black's good, or the best stone where moves are left that
 /// gain, or that half-points don't tell it.
-#[derive(Clone, Copy, Debug, PartialEq, Eq)]
+#[derive(Clone, Copy)]
 pub enum Score {
     Halves(i64),
     Stone(Point),

@@ -15,16 +15,24 @@ use game_store::{GameId, Store};
 use game_text::Text;
 use go_grid::{Point, Size};
 use std::alloc::{AllocError, Global};
+use std::fmt;
 use thiserror::Error;
 
 /// Why values aren't shown: the value of the region with this lowest point has a named text of more than 65,536 bytes,
 /// braces in it that nest more than 1,000 deep, or a break point past the bounds of a `Dyadic`; or memory is wanting.
-#[derive(Clone, Copy, Debug, PartialEq, Eq, Error)]
+#[derive(Clone, Copy, Error)]
 pub enum ValuesError {
     #[error("a value that isn't shown")]
     Form(Point),
     #[error("out of memory")]
     Memory(AllocError),
+}
+
+// As the message: what a derive writes is dearer to prove.
+impl fmt::Debug for ValuesError {
+    fn fmt<W: fmt::Write>(&self, f: &mut fmt::Formatter<W>) -> fmt::Result {
+        fmt::Display::fmt(self, f)
+    }
 }
 
 impl From<AllocError> for ValuesError {
