@@ -1,7 +1,7 @@
 //! How a session ends.
 
 /// How a session ends.
-#[derive(Clone, Copy, Debug, PartialEq, Eq)]
+#[derive(Clone, Copy, PartialEq, Eq)]
 pub enum GtpEnd {
     /// A line said so.
     Quit,

@@ -12,7 +12,7 @@ use sgf_tree::{MOST_BYTES, SgfError, Tree};
 use std::alloc::{AllocError, Global};
 
 /// What a load comes to.
-#[derive(Debug, Drop)]
+#[derive(Drop)]
 pub enum Loading {
     /// The position of the file.
     Position(Setup),

@@ -10,7 +10,7 @@ use std::marker::Model;
 pub const MOST_LOADS: u32 = 1_000_000;
 
 /// How many loads there were, and the numbers of those that failed, counted from 0.
-#[derive(Debug, Drop)]
+#[derive(Drop)]
 pub struct Loads {
     count: u32,
     failures: Vec<u32>,

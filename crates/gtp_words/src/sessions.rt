@@ -22,7 +22,7 @@ use std::sync::ledger::Ledger;
 const MOST_BYTES: usize = 1_024;
 
 /// The reply to a line, and whether the session ends with it.
-#[derive(Debug, Drop)]
+#[derive(Drop)]
 pub struct Answer {
     pub reply: ItemList<u8>,
     pub quit: bool,

@@ -12,7 +12,7 @@ use go_grid::{Colour, Point, Size};
 use std::alloc::{AllocError, Global};
 
 /// A point by its column from 0 and its row from the bottom, from 1. It may be off the board.
-#[derive(Clone, Copy, Debug, PartialEq, Eq)]
+#[derive(Clone, Copy)]
 pub struct Vertex {
     pub column: u8,
     pub row: u8,

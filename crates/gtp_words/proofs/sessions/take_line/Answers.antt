@@ -1,8 +1,9 @@
-use Rattle.std.proofs.Common.{◌≤◌, ◌≡◌, ℕ, length, take, sym, ap, ◌∙◌, subst}
+use Rattle.std.proofs.Common.{◌≤◌, ◌≡◌, ℕ, length, take, sym, ap, ◌∙◌, subst, arith, rules, refl}
 use Rattle.std.specs.Io.KnownBytes.{append_known}
 use Rattle.desk_io.specs.Lines.{IsFound, UsesLines}
-use Rattle.desk_io.proofs.UsedLineLemmas.{used_line}
-use Rattle.gtp_words.proofs.TakenLineLemmas.{taken_cut, taken_last, taken_on}
+use Rattle.desk_io.proofs.UsedLineLemmas.{used_line, used_none}
+use Rattle.gtp_words.specs.Loads.Fate.{no_load}
+use Rattle.gtp_words.proofs.TakenLineLemmas.{taken_cut, taken_last, taken_nothing, taken_on, taken_refused, taken_unread}
 use Rattle.gtp_words.proofs.sessions.take_line.Goals as goal
 
 pub returns-in-Err-say-clause-taken : goal.returns-in-Err-say-clause-taken
@@ -55,3 +56,57 @@ returns-clause-used g c =
     let held = c.find_line.new.self in let left = g.S.Source.left c.args.lines.now in let left' = g.S.Source.left c.find_line.new.lines in
     let found = subst (λ x. IsFound 1024 held left' x) c.in-Ok-Some.field-0-is c.in-Ok-Some.ensures.found in
     subst (λ l. UsesLines 1024 0 1 c.args.reader.now left l left') (sym c.drop_front.ensures) (used_line 1024 c.args.reader.now held left left' c.in-Ok-Some.found.taken c.find_line.ensures.same found.1 c.find_line.ensures.few)
+
+pub returns-in-Ok-None-clause-taken : goal.returns-in-Ok-None-clause-taken
+returns-in-Ok-None-clause-taken g c =
+    let loaded = g.A.AnswersLines.loaded in let rep = g.A.AnswersLines.replies in
+    let files = g.H.Shelf.files c.args.shelf.now in let before = g.H.Shelf.faults c.args.shelf.now in
+    let held = c.find_line.new.self in let left = g.S.Source.left c.args.lines.now in let left' = g.S.Source.left c.find_line.new.lines in
+    let holds = g.K.Sink.holds c.args.out.now in
+    let found = subst (λ x. IsFound 1024 held left' x) c.in-Ok-None.field-0-is c.in-Ok-None.ensures.found in
+    taken_nothing g.A.AnswersLines.State (rep (g.A.AnswersLines.rules c.args.engine.now) files) before before (loaded c.args.engine.now) c.args.reader.now held left left' holds c.find_line.ensures.same found.0 found.1
+
+pub returns-in-Err-clause-taken : goal.returns-in-Err-clause-taken
+returns-in-Err-clause-taken g c =
+    let loaded = g.A.AnswersLines.loaded in let rep = g.A.AnswersLines.replies in
+    let files = g.H.Shelf.files c.args.shelf.now in let before = g.H.Shelf.faults c.args.shelf.now in
+    let held = c.find_line.new.self in let left = g.S.Source.left c.args.lines.now in let left' = g.S.Source.left c.find_line.new.lines in
+    let holds = g.K.Sink.holds c.args.out.now in
+    taken_unread g.A.AnswersLines.State (rep (g.A.AnswersLines.rules c.args.engine.now) files) before before (loaded c.args.engine.now) c.args.reader.now held left left' holds c.find_line.ensures.same
+
+pub returns-in_default-clause-taken : goal.returns-in_default-clause-taken
+returns-in_default-clause-taken g c =
+    let loaded = g.A.AnswersLines.loaded in let rep = g.A.AnswersLines.replies in
+    let files = g.H.Shelf.files c.args.shelf.now in let before = g.H.Shelf.faults c.args.shelf.now in
+    let held = c.find_line.new.self in let left = g.S.Source.left c.args.lines.now in let left' = g.S.Source.left c.find_line.new.lines in
+    let holds = g.K.Sink.holds c.args.out.now in
+    let now = g.H.Shelf.faults c.answer_line.new.shelf in
+    taken_refused g.A.AnswersLines.State (rep (g.A.AnswersLines.rules c.args.engine.now) files) before now (loaded c.args.engine.now) c.args.reader.now held left left' holds c.find_line.ensures.same
+    (loaded c.answer_line.new.self) (ap loaded (search rules))
+
+pub returns-in-Ok-None-clause-used : goal.returns-in-Ok-None-clause-used
+returns-in-Ok-None-clause-used g c =
+    used_none 1024 0 1 c.args.reader.now c.find_line.new.self (g.S.Source.left c.args.lines.now) (g.S.Source.left c.find_line.new.lines) (omega arith) c.find_line.ensures.same
+
+pub returns-in-Err-clause-used : goal.returns-in-Err-clause-used
+returns-in-Err-clause-used g c =
+    used_none 1024 0 1 c.args.reader.now c.find_line.new.self (g.S.Source.left c.args.lines.now) (g.S.Source.left c.find_line.new.lines) (omega arith) c.find_line.ensures.same
+
+pub returns-in_default-clause-used : goal.returns-in_default-clause-used
+returns-in_default-clause-used g c =
+    used_none 1024 0 1 c.args.reader.now c.find_line.new.self (g.S.Source.left c.args.lines.now) (g.S.Source.left c.find_line.new.lines) (omega arith) c.find_line.ensures.same
+
+pub returns-in-Ok-None-clause-noted : goal.returns-in-Ok-None-clause-noted
+returns-in-Ok-None-clause-noted g c = (no_load, refl)
+
+pub returns-in-Err-clause-noted : goal.returns-in-Err-clause-noted
+returns-in-Err-clause-noted g c = (no_load, refl)
+
+pub returns-in-Err-say-clause-noted : goal.returns-in-Err-say-clause-noted
+returns-in-Err-say-clause-noted g c = (c.in-Ok.ensures.answered.fate, c.in-Ok.ensures.answered.noted)
+
+pub returns-then-answer-clause-noted : goal.returns-then-answer-clause-noted
+returns-then-answer-clause-noted g c = (c.in-Ok.ensures.answered.fate, c.in-Ok.ensures.answered.noted)
+
+pub returns-clause-noted : goal.returns-clause-noted
+returns-clause-noted g c = (c.in-Ok.ensures.answered.fate, c.in-Ok.ensures.answered.noted)
