@@ -11,7 +11,7 @@ use crate::places::{MOST_PLACES, Places};
 use go_grid::{Colour, Region, Touch};
 
 /// Which places of a region are linked, and next to which of them alive stones stand, as sets of places.
-#[derive(Clone, Copy, Debug)]
+#[derive(Clone, Copy)]
 pub struct Links {
     /// By place the places that it is linked to.
     near: [Places; MOST_PLACES],

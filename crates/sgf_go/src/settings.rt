@@ -23,7 +23,7 @@ pub struct Settings {
 }
 
 /// A position: its board, the stones that each side has taken, the komi in half-points, and the side to move.
-#[derive(Debug, Drop)]
+#[derive(Drop)]
 pub struct Setup {
     pub board: Board,
     pub black_prisoners: u64,
