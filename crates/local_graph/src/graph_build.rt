@@ -17,10 +17,11 @@ use crate::search::{Searched, search_from_opening};
 use go_grid::Region;
 use local_play::{Links, Local, LocalMove, MOST_PLACES, Steps, list_moves, start};
 use std::alloc::{AllocError, AllocFailed, Global};
+use std::fmt;
 use std::sync::ledger::Ledger;
 
 /// Why a region has no graph.
-#[derive(Debug, Drop, thiserror::Error)]
+#[derive(Drop, thiserror::Error)]
 pub enum GraphError {
     /// The region has more than 32 points. Their number.
     #[error("{0} points in a region")]
@@ -34,6 +35,12 @@ pub enum GraphError {
     Cycle(CycleList, usize),
     #[error("out of memory")]
     Memory(AllocError),
+}
+
+impl fmt::Debug for GraphError {
+    fn fmt<W: fmt::Write>(&self, f: &mut fmt::Formatter<W>) -> fmt::Result {
+        fmt::Display::fmt(self, f)
+    }
 }
 
 impl From<AllocError> for GraphError {
