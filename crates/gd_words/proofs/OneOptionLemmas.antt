@@ -1,5 +1,8 @@
 -- A name and a value say at most one option.
-use Rattle.std.proofs.Common.{◌≡◌, ℕ, List, Bool, true, false, refl, sym, ap, ◌∙◌, subst}
+use Rattle.std.proofs.Common.{◌≡◌, ◌≤◌, ℕ, ℤ, List, Bool, true, false, refl, sym, ap, ◌∙◌, subst, arith, to_z, of_z, w64}
+use Rattle.std.specs.Prelude.{unsigned_abs}
+use Rattle.std.proofs.lemmas.Int.{fits_signed_from_abs, ints, to_z-of_z}
+use Rattle.sgf_go.specs.Komi.{IsInRange}
 use Rattle.local_graph.specs.declared.graph.TheConstants.{MOST_POSITIONS}
 use Rattle.gd_words.specs.declared.choice.TheConstants.{MOST_MOVES, MOST_PARTS}
 use Rattle.sgf_go.specs.declared.settings.TheConstants.{MOST_PRISONERS}
@@ -32,6 +35,15 @@ same : {A : Type 0} (option : A → Choice) (name word : List ℕ) (y : Choice) 
 same option name word y v only e one b =
     let m = only y (sym b.0 ∙ e) in
     ap option (one m.0 (subst (IsChoiceValue word) m.1 b.1)) ∙ sym m.1
+
+-- a komi in range that is read again
+pub same_komi : (halves : ℤ) → IsInRange halves → to_z w64 (of_z w64 halves) ≡ halves
+same_komi halves in_range =
+    let modest : unsigned_abs halves ≤ 2000000 = omega (arith, ints, in_range.0, in_range.1) in to_z-of_z w64 halves (fits_signed_from_abs w64 halves (omega (arith, ints, modest)))
+
+-- a name whose value says nothing says no option
+pub unsaid : {A : Type 0} (option : A → Choice) (known name word : List ℕ) → IsOnly option known → name ≡ known → ((v : A) → ¬ IsChoiceValue word (option v)) → (x : Choice) → ¬ IsChoice name word x
+unsaid option known name word only e none x b = let m = only x (sym b.0 ∙ e) in none m.0 (subst (IsChoiceValue word) m.1 b.1)
 
 pub one_choice : (name word : List ℕ) (x y : Choice) → IsChoice name word x → IsChoice name word y → x ≡ y
 one_choice name word (Komi v) y a b = same Komi name word y v komi_only a.0 (λ w. one_komi word v w a.1) b

@@ -43,18 +43,18 @@ pub(crate) fn read_choice(name: &str, value: &str) -> Option<Choice>
     ensures none { IfNone result ((choice : Choice) → ¬ IsChoice name.now value.now choice) }
 {
     match name {
-        "--komi" => read_komi(value.as_bytes()).map(Choice::Komi),
-        "--turn" => read_colour(value).map(Choice::Turn),
-        "--after" => read_count(0, MOST_MOVES, value).map(Choice::After),
-        "--black-prisoners" => read_count(0, MOST_PRISONERS, value).map(Choice::BlackPrisoners),
-        "--white-prisoners" => read_count(0, MOST_PRISONERS, value).map(Choice::WhitePrisoners),
-        "--positions" => read_count(1, MOST_POSITIONS, value).map(Choice::Positions),
-        "--parts" => read_count(1, MOST_PARTS, value).map(Choice::Parts),
-        "--as" => read_colour(value).map(Choice::Engine),
-        "--tax" => read_answer(value).map(Choice::Tax),
-        "--territory" => read_answer(value).map(Choice::Territory),
-        "--cycles" => read_answer(value).map(Choice::Cycles),
-        "--board" => read_answer(value).map(Choice::KeepBoard),
+        "--komi" => Some(Choice::Komi(read_komi(value.as_bytes())?)),
+        "--turn" => Some(Choice::Turn(read_colour(value)?)),
+        "--after" => Some(Choice::After(read_count(0, MOST_MOVES, value)?)),
+        "--black-prisoners" => Some(Choice::BlackPrisoners(read_count(0, MOST_PRISONERS, value)?)),
+        "--white-prisoners" => Some(Choice::WhitePrisoners(read_count(0, MOST_PRISONERS, value)?)),
+        "--positions" => Some(Choice::Positions(read_count(1, MOST_POSITIONS, value)?)),
+        "--parts" => Some(Choice::Parts(read_count(1, MOST_PARTS, value)?)),
+        "--as" => Some(Choice::Engine(read_colour(value)?)),
+        "--tax" => Some(Choice::Tax(read_answer(value)?)),
+        "--territory" => Some(Choice::Territory(read_answer(value)?)),
+        "--cycles" => Some(Choice::Cycles(read_answer(value)?)),
+        "--board" => Some(Choice::KeepBoard(read_answer(value)?)),
         _ => None,
     }
 }

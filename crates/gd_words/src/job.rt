@@ -10,7 +10,7 @@ use go_grid::Colour;
 use sgf_go::Settings;
 
 /// A question about the position of a file, which one text answers.
-#[derive(Clone, Copy, Debug, PartialEq, Eq)]
+#[derive(Clone, Copy)]
 pub enum Question {
     /// Who wins, and by which move?
     Solve,
@@ -31,7 +31,7 @@ pub enum Question {
 }
 
 /// A question about a position whose regions may have cycles.
-#[derive(Clone, Copy, Debug, PartialEq, Eq)]
+#[derive(Clone, Copy, PartialEq, Eq)]
 pub enum CycleQuestion {
     /// Who wins, with how many captures that return, and by which move?
     Solve,
@@ -45,7 +45,7 @@ pub enum CycleQuestion {
 
 /// A command with its file, the number of its board, or its expression. The file `-` is the source, which `Play` never has. `Gtp`
 /// has none of these.
-#[derive(Clone, Copy, Debug, PartialEq, Eq)]
+#[derive(Clone, Copy, PartialEq, Eq)]
 pub enum Command<'a> {
     Solve(&'a str),
     Safe(&'a str),
@@ -63,7 +63,7 @@ pub enum Command<'a> {
 }
 
 /// A command and what its options set.
-#[derive(Clone, Copy, Debug, PartialEq, Eq)]
+#[derive(Clone, Copy, PartialEq, Eq)]
 pub struct Job<'a> {
     pub command: Command<'a>,
     /// What is set beside the file.
