@@ -27,3 +27,5 @@ pub mod ReadingExitLaws
 pub mod RoundTripLaws
 pub mod StoredTextLaws
 pub mod NamedRoundTripLaws
+pub mod WantLaws
+pub mod MadeBracesLaws

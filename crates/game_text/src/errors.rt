@@ -12,7 +12,7 @@ use std::fmt;
 use thiserror::Error;
 
 /// Why a form has no text: the text has more bytes than allowed, its braces nest deeper than 1,000, or memory is wanting.
-#[derive(Clone, Copy, Debug, PartialEq, Eq, Error)]
+#[derive(Clone, Copy, PartialEq, Eq, Error)]
 pub enum WriteError {
     #[error("too long")]
     Long,
@@ -20,6 +20,12 @@ pub enum WriteError {
     Deep,
     #[error("out of memory")]
     Memory(AllocError),
+}
+
+impl fmt::Debug for WriteError {
+    fn fmt<W: fmt::Write>(&self, f: &mut fmt::Formatter<W>) -> fmt::Result {
+        fmt::Display::fmt(self, f)
+    }
 }
 
 impl From<AllocError> for WriteError {
@@ -33,7 +39,7 @@ impl From<AllocError> for WriteError {
 /// Why a text names no form. A byte that fits no rule and a number that is none are told by their place, counted from 0;
 /// the text may also end too soon, nest its braces deeper than 1,000, or have a form in it that is no number and has too
 /// many parts, or that is a number past the bounds of a `Dyadic`; or memory is wanting.
-#[derive(Clone, Copy, Debug, PartialEq, Eq, Error)]
+#[derive(Clone, Copy, PartialEq, Eq, Error)]
 pub enum ReadError {
     #[error(fmt = bad_byte)]
     BadByte(usize),
@@ -59,6 +65,12 @@ fn bad_byte<W: fmt::Write>(place: &usize, f: &mut fmt::Formatter<W>) -> fmt::Res
 
 fn bad_number<W: fmt::Write>(place: &usize, f: &mut fmt::Formatter<W>) -> fmt::Result {
     write!(f, "bad number at byte {place}")
+}
+
+impl fmt::Debug for ReadError {
+    fn fmt<W: fmt::Write>(&self, f: &mut fmt::Formatter<W>) -> fmt::Result {
+        fmt::Display::fmt(self, f)
+    }
 }
 
 impl From<AllocError> for ReadError {

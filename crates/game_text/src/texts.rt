@@ -1,8 +1,9 @@
 //! The texts of forms, kept one behind another.
 
-ghost use Rattle.std.specs.Prelude.{◌≡◌, ◌++◌, ℕ, List, nat_eq, map, IfOk, OnOk};
+ghost use Rattle.std.specs.Prelude.{◌≡◌, ◌++◌, ◌∷◌, ℕ, List, nat_eq, map, IfOk, OnOk};
 ghost use Rattle.std.specs.List.Sorted.{IsPermutation, IsSortedBy};
 ghost use Rattle.indexmap.specs.IndexMap.{get};
+ghost use Rattle.short_games.specs.Text.{comma};
 ghost use Rattle.short_games.specs.TextOrder.{lesser_text};
 ghost use Rattle.game_text.specs.inner.Written.{IsAppended, IsWithin, AreKept, IsSideText, IsBracesText, text_at};
 ghost use Rattle.game_text.specs.NamedText.{joined};
@@ -57,6 +58,15 @@ fn sorted_texts<'a>(
     Ok(found)
 }
 
+/// Appends a comma and a text.
+fn push_further(text: &mut Vec<u8>, part: &[u8]) -> Result<(), AllocError>
+    ensures { OnOk result (text.new.items ≡ text.old.items ++ comma ∷ part.now) }
+{
+    text.push(b',')?;
+    text.extend_from_slice(part)?;
+    Ok(())
+}
+
 /// Appends the texts with commas between them.
 fn push_joined(text: &mut Vec<u8>, parts: &[&[u8]]) -> Result<(), AllocError>
     ensures { OnOk result (text.new.items ≡ text.old.items ++ joined (map (λ t. t.now) parts.now)) }
@@ -66,8 +76,7 @@ fn push_joined(text: &mut Vec<u8>, parts: &[&[u8]]) -> Result<(), AllocError>
     };
     text.extend_from_slice(first)?;
     for part in others {
-        text.push(b',')?;
-        text.extend_from_slice(part)?;
+        push_further(text, part)?;
     }
     Ok(())
 }

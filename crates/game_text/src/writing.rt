@@ -170,6 +170,23 @@ fn nesting(text: &[u8]) -> usize
     deepest
 }
 
+/// The text, unless it has more than `limit` bytes or its braces nest deeper than 1,000.
+fn fitting(alloc: Global, text: &[u8], limit: usize) -> Result<Text, WriteError>
+    ensures text { IfOk result (λ t. t ≡ text.now) }
+    ensures within { (G : Tree) → text.now ≡ named_text G
+        → IfOk result (λ t. (length t ≤ limit) × (named_depth G ≤ 1000)) }
+    ensures refusal { (G : Tree) → text.now ≡ named_text G
+        → IfErr result (λ e. IsWriteRefusal G limit e) }
+{
+    if text.len() > limit {
+        return Err(WriteError::Long);
+    }
+    if nesting(text) > MOST_OPEN {
+        return Err(WriteError::Deep);
+    }
+    Ok(Text::from_slice(alloc, text)?)
+}
+
 /// The named text of a form: a number is written in decimal or as a fraction in lowest terms, the nimber of 1 as `*` and
 /// that of a greater number as `*` and the number, up as `^`, down as `v`, and the switch of a number above 0 as `+-` and
 /// the number. Any other form is `{`, the named texts of its Left options, `|`, those of its Right options and `}`, on
@@ -183,12 +200,5 @@ pub fn write(alloc: Global, store: &Store, id: GameId, limit: usize) -> Result<T
     ensures refusal { IfErr result (λ e. IsWriteRefusal (tree_at store.now id) limit e) }
 {
     let texts = named_texts(alloc, store, id, limit)?;
-    let text = text_of(&texts, id);
-    if text.len() > limit {
-        return Err(WriteError::Long);
-    }
-    if nesting(text) > MOST_OPEN {
-        return Err(WriteError::Deep);
-    }
-    Ok(Text::from_slice(alloc, text)?)
+    fitting(alloc, text_of(&texts, id), limit)
 }

@@ -9,3 +9,12 @@ intern-requires-clause-no_number c = next-no_number c.args.store.now _ _ _ c.req
 
 pub returns-clause-nimbers : goal.returns-clause-nimbers
 returns-clause-nimbers c = nimbers-grown c.args.store.now c.intern.new.self _ _ _ c.push.new.self.items c.in_ok-id.id c.requires.nimbers c.intern.ensures.kept c.len-count.ensures.forms c.len-count.ensures.distinct c.deref.ensures.value c.deref-2.ensures.value c.in_ok-id.ensures.value c.in_ok-push.ensures.items
+
+pub returns-clause-kept : goal.returns-clause-kept
+returns-clause-kept c = c.intern.ensures.kept
+
+pub returns-in_err-id-clause-kept : goal.returns-in_err-id-clause-kept
+returns-in_err-id-clause-kept c = c.intern.ensures.kept
+
+pub returns-in_err-push-clause-kept : goal.returns-in_err-push-clause-kept
+returns-in_err-push-clause-kept c = c.intern.ensures.kept

@@ -14,3 +14,9 @@ returns-in_err-id-clause-refusal c = read-passed_on c.from_residual-in_err-id.re
 
 pub returns-clause-found : goal.returns-clause-found
 returns-clause-found c = (_, c.in_ok-number.ensures.number, c.in_ok-id.ensures.taken, c.digits_end-end.ensures.forward, c.digits_end-end.ensures.within)
+
+pub returns-clause-kept : goal.returns-clause-kept
+returns-clause-kept c = c.taken_nimber.ensures.kept
+
+pub returns-in_err-id-clause-kept : goal.returns-in_err-id-clause-kept
+returns-in_err-id-clause-kept c = c.taken_nimber.ensures.kept

@@ -25,3 +25,9 @@ returns-in_err-id-clause-refusal c = read-passed_on c.from_residual-in_err-id.re
 
 pub returns-clause-found : goal.returns-clause-found
 returns-clause-found c = (_, switch-plus c.args.text.now c.args.start (omega (arith, c.if-start-text.false)) c.run_end-end.result c.run_end-end.ensures (c.if-not-is_number_byte.ensures.0 refl) c.in-Some.x (at-some c.in_ok-x.field-0 c.in-Some.x _ _ c.in-Some.is c.in_ok-x.ensures) (c.if-not-is_negative.ensures.0 refl), c.in_ok-id.ensures.taken, c.run_end-end.ensures.forward, c.run_end-end.ensures.within)
+
+pub returns-clause-kept : goal.returns-clause-kept
+returns-clause-kept c = c.taken_switch.ensures.kept
+
+pub returns-in_err-id-clause-kept : goal.returns-in_err-id-clause-kept
+returns-in_err-id-clause-kept c = c.taken_switch.ensures.kept

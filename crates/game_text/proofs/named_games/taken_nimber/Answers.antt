@@ -8,3 +8,9 @@ returns-then-number-from-clause-refusal c = nimber-cause c.args.number c.args.pa
 
 pub returns-clause-taken : goal.returns-clause-taken
 returns-clause-taken c = nimber-taken c.built_nimber.new.store c.args.parts_limit c.args.number c.in_ok-id.id c.requires (omega (arith, c.if-number-from.false, c.from.ensures)) c.in_ok-id.ensures.value
+
+pub returns-clause-kept : goal.returns-clause-kept
+returns-clause-kept c = c.built_nimber.ensures.kept
+
+pub returns-in_err-id-clause-kept : goal.returns-in_err-id-clause-kept
+returns-in_err-id-clause-kept c = c.built_nimber.ensures.kept

@@ -30,3 +30,9 @@ returns-clause-next c = (
       c.close.new.store c.close.new.pending.options.items c.close.new.pending.opens.items c.in_ok-place.place c.close.ensures.kept c.in_ok-place.ensures.value c.in_ok-place.ensures.opens c.in_ok-place.ensures.place,
   omega arith,
 )
+
+pub returns-clause-kept : goal.returns-clause-kept
+returns-clause-kept c = c.close.ensures.kept
+
+pub returns-in_err-place-clause-kept : goal.returns-in_err-place-clause-kept
+returns-in_err-place-clause-kept c = c.close.ensures.kept

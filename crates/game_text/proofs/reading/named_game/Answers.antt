@@ -28,3 +28,21 @@ returns-in_err-id-clause-refusal c = read-passed_on c.from_residual.result _ (Is
 pub returns-in_err-id-2-clause-refusal : goal.returns-in_err-id-2-clause-refusal
 returns-in_err-id-2-clause-refusal c = read-passed_on c.from_residual-in_err-id-2.result _ (IsRefusedBy (ReadsName (slice_index c.args.source.now.text.now c.args.at)) c.args.source.now.parts_limit c.args.source.now.text.now (c.args.at + 1)) (err_from_is_err_and c.from_residual-in_err-id-2.result c.from_residual-in_err-id-2.ensures.1)
     (taken-refused (ReadsName (slice_index c.args.source.now.text.now c.args.at)) c.args.source.now.parts_limit c.args.source.now.text.now (c.args.at + 1) down (drop (c.args.at + 1) c.args.source.now.text.now) (a_down (last-name _ c.requires.byte c.if-byte-eq42.false c.if-byte-eq43.false c.if-byte-eq94.false) refl) _ c.in_err-id-2.ensures.refusal)
+
+pub returns-then-byte-eq42-clause-kept : goal.returns-then-byte-eq42-clause-kept
+returns-then-byte-eq42-clause-kept c = c.read_nimber.ensures.kept
+
+pub returns-then-byte-eq43-clause-kept : goal.returns-then-byte-eq43-clause-kept
+returns-then-byte-eq43-clause-kept c = c.read_switch.ensures.kept
+
+pub returns-in_err-id-clause-kept : goal.returns-in_err-id-clause-kept
+returns-in_err-id-clause-kept c = c.taken_up.ensures.kept
+
+pub returns-in_err-id-2-clause-kept : goal.returns-in_err-id-2-clause-kept
+returns-in_err-id-2-clause-kept c = c.taken_down.ensures.kept
+
+pub returns-then-byte-eq94-clause-kept : goal.returns-then-byte-eq94-clause-kept
+returns-then-byte-eq94-clause-kept c = c.taken_up.ensures.kept
+
+pub returns-clause-kept : goal.returns-clause-kept
+returns-clause-kept c = c.taken_down.ensures.kept

@@ -15,3 +15,21 @@ returns-in_err-open_form-clause-refusal c = read-passed_on c.from_residual.resul
 
 pub returns-clause-next : goal.returns-clause-next
 returns-clause-next c = (game-open c.args.store.now c.args.source.now.parts_limit c.args.source.now.text.now c.args.at c.args.pending.now.options.items c.args.pending.now.opens.items c.requires.here c.open_form.new.pending.options.items c.open_form.new.pending.opens.items c.requires.reading c.if-byte-ne123.false c.in_ok-open_form.ensures.few c.in_ok-open_form.ensures.options c.in_ok-open_form.ensures.opens, omega arith)
+
+pub returns-then-is_number_byte-clause-next : goal.returns-then-is_number_byte-clause-next
+returns-then-is_number_byte-clause-next c = c.read_number.ensures.next
+
+pub returns-then-is_number_byte-clause-refusal : goal.returns-then-is_number_byte-clause-refusal
+returns-then-is_number_byte-clause-refusal c = c.read_number.ensures.refusal
+
+pub returns-then-is_number_byte-clause-kept : goal.returns-then-is_number_byte-clause-kept
+returns-then-is_number_byte-clause-kept c = c.read_number.ensures.kept
+
+pub returns-then-is_name_byte-clause-next : goal.returns-then-is_name_byte-clause-next
+returns-then-is_name_byte-clause-next c = c.read_name.ensures.next
+
+pub returns-then-is_name_byte-clause-refusal : goal.returns-then-is_name_byte-clause-refusal
+returns-then-is_name_byte-clause-refusal c = c.read_name.ensures.refusal
+
+pub returns-then-is_name_byte-clause-kept : goal.returns-then-is_name_byte-clause-kept
+returns-then-is_name_byte-clause-kept c = c.read_name.ensures.kept

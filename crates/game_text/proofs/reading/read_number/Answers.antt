@@ -11,3 +11,12 @@ returns-clause-next c = (
       (at-some c.in_ok-x.field-0 c.in-Some.x _ _ c.in-Some.is c.in_ok-x.ensures) c.number.ensures.kept c.in_ok-id.ensures.value c.in_ok-place.ensures.options c.in_ok-place.ensures.opens c.in_ok-place.ensures.place,
   game-number_past c.args.store.now c.args.source.now.parts_limit c.args.source.now.text.now c.args.at c.args.pending.now.options.items c.args.pending.now.opens.items c.requires.here c.run_end-end.result c.run_end-end.ensures c.requires.byte,
 )
+
+pub returns-clause-kept : goal.returns-clause-kept
+returns-clause-kept c = c.number.ensures.kept
+
+pub returns-in_err-place-clause-kept : goal.returns-in_err-place-clause-kept
+returns-in_err-place-clause-kept c = c.number.ensures.kept
+
+pub returns-in_err-id-clause-kept : goal.returns-in_err-id-clause-kept
+returns-in_err-id-clause-kept c = c.number.ensures.kept

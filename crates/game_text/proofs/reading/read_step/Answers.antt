@@ -29,3 +29,30 @@ returns-else-byte-ne44-clause-next c = (
       (subst (λ p. IsReading c.args.store.now c.args.source.now.parts_limit c.args.source.now.text.now c.args.step.at p c.args.pending.now.options.items c.args.pending.now.opens.items) c.in-Behind.is c.requires.reading) c.if-byte-ne44.false,
   omega arith,
 )
+
+pub returns-in-Game-clause-next : goal.returns-in-Game-clause-next
+returns-in-Game-clause-next c = c.read_game.ensures.next
+
+pub returns-in-Game-clause-refusal : goal.returns-in-Game-clause-refusal
+returns-in-Game-clause-refusal c = c.read_game.ensures.refusal
+
+pub returns-in-Game-clause-kept : goal.returns-in-Game-clause-kept
+returns-in-Game-clause-kept c = c.read_game.ensures.kept
+
+pub returns-then-ends_side-clause-next : goal.returns-then-ends_side-clause-next
+returns-then-ends_side-clause-next c = c.end_side.ensures.next
+
+pub returns-then-ends_side-clause-refusal : goal.returns-then-ends_side-clause-refusal
+returns-then-ends_side-clause-refusal c = c.end_side.ensures.refusal
+
+pub returns-then-ends_side-clause-kept : goal.returns-then-ends_side-clause-kept
+returns-then-ends_side-clause-kept c = c.end_side.ensures.kept
+
+pub returns-then-ends_side-2-clause-next : goal.returns-then-ends_side-2-clause-next
+returns-then-ends_side-2-clause-next c = c.end_side-then-ends_side-2.ensures.next
+
+pub returns-then-ends_side-2-clause-refusal : goal.returns-then-ends_side-2-clause-refusal
+returns-then-ends_side-2-clause-refusal c = c.end_side-then-ends_side-2.ensures.refusal
+
+pub returns-then-ends_side-2-clause-kept : goal.returns-then-ends_side-2-clause-kept
+returns-then-ends_side-2-clause-kept c = c.end_side-then-ends_side-2.ensures.kept
