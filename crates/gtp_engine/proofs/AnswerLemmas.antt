@@ -10,12 +10,13 @@ use Rattle.go_grid.specs.declared.grid.Colour.{Colour}
 use Rattle.sgf_go.specs.declared.settings.Settings.{Settings}
 use Rattle.gtp_engine.specs.declared.playing.Action.{Action}
 use Rattle.gtp_engine.specs.inner.Playing.{Acts}
-use Rattle.gtp_engine.specs.inner.Doing.{CanKeep, IsLoadNoted, IsTurnTaken}
+use Rattle.gtp_engine.specs.declared.limits.EngineLimits.{EngineLimits}
+use Rattle.gtp_engine.specs.inner.Doing.{CanKeep, IsDone, IsLoadNoted, IsTurnTaken}
 use Rattle.gtp_words.specs.Files.{IsLoaded, load_settings}
 use Rattle.gtp_engine.specs.Request.{Asked, Asks, Order}
 use Rattle.gtp_engine.specs.Request.Asked.{unknown, misfit}
-use Rattle.gtp_engine.specs.Request.Order.{clear_board, loadsgf}
-use Rattle.gtp_engine.specs.Session.{Obeys, Said, Table, TakesTurn, done, fresh, is_last, refused, reply_text}
+use Rattle.gtp_engine.specs.Request.Order.{protocol_version, name, version, known_command, list_commands, boardsize, clear_board, komi, play, genmove, loadsgf, quit}
+use Rattle.gtp_engine.specs.Session.{Does, Obeys, Said, Table, TakesTurn, done, is_last, refused, reply_text}
 use Rattle.gtp_words.specs.Loads.Fate.{made, failed, no_load}
 use Rattle.gtp_words.specs.Words.{AreWords, HasId, cleaned}
 use Rattle.gtp_engine.specs.Written.{Engine, IsEngineReply}
@@ -43,21 +44,26 @@ pub loads_obeyed : {E : Type 0} (files : Option Files) (before now : ℕ) (id fi
 loads_obeyed files before now id file after a b loading (Ok reply) text l n = load_obeyed files before now id file after a b loading reply text l n
 loads_obeyed files before now id file after a b loading (Err e) text l n = tt
 
--- an order that is answered by a text alone
-pub obeyed_told : {E : Type 0} (files : Option Files) (before now : ℕ) (id text : List ℕ) (ordered order : Order) (a : Engine) (result : Result (List ℕ) E) → ordered ≡ order
-    → Obeys a.limits files order no_load a.table (done text) a.table → IfOk result (λ reply. reply ≡ reply_text id (done text)) → IfOk result (λ reply. IsObeyed files before now id ordered a reply a)
-obeyed_told files before now id text ordered order a (Ok reply) is does said = subst (λ o. IsObeyed files before now id o a reply a) (sym is) (no_load, done text, does, said, refl, refl)
-obeyed_told files before now id text ordered order a (Err e) is does said = tt
+-- an order that asks for no file
+plain_obeys : (limits : EngineLimits) (files : Option Files) (order : Order) (t u : Table) (said : Said) → Does limits order t said u → Obeys limits files order no_load t said u
+plain_obeys limits files protocol_version t u said h = (refl, h)
+plain_obeys limits files name t u said h = (refl, h)
+plain_obeys limits files version t u said h = (refl, h)
+plain_obeys limits files (known_command word) t u said h = (refl, h)
+plain_obeys limits files list_commands t u said h = (refl, h)
+plain_obeys limits files (boardsize n) t u said h = (refl, h)
+plain_obeys limits files clear_board t u said h = (refl, h)
+plain_obeys limits files (komi halves) t u said h = (refl, h)
+plain_obeys limits files (play c wanted) t u said h = (refl, h)
+plain_obeys limits files (genmove c) t u said h = (refl, h)
+plain_obeys limits files quit t u said h = (refl, h)
+plain_obeys limits files (loadsgf file after) t u said h = absurd h
 
--- a fresh board
-pub obeyed_cleared : {E : Type 0} (files : Option Files) (before now : ℕ) (id : List ℕ) (columns rows : ℕ) (ordered : Order) (a b : Engine) (result : Result (List ℕ) E) → ordered ≡ clear_board
-    → columns ≡ a.table.setup.board.columns → rows ≡ a.table.setup.board.rows
-    → IfOk result (λ reply. (reply ≡ reply_text id (done [])) × (b ≡ record a { table = fresh columns rows a.table.setup.komi_halves })) → IfOk result (λ reply. IsObeyed files before now id ordered a reply b)
-obeyed_cleared files before now id columns rows ordered a b (Ok reply) is same_columns same_rows d =
-    let halves = a.table.setup.komi_halves in
-    let table = ap (λ x. x.table) d.1 ∙ ap (λ n. fresh n rows halves) same_columns ∙ ap (λ n. fresh a.table.setup.board.columns n halves) same_rows in
-    subst (λ o. IsObeyed files before now id o a reply b) (sym is) (no_load, done [], (refl, (refl, table)), d.0, ap (λ x. x.loads) d.1, ap (λ x. x.limits) d.1)
-obeyed_cleared files before now id columns rows ordered a b (Err e) is same_columns same_rows d = tt
+pub plain_obeyed : {E : Type 0} (files : Option Files) (faults : ℕ) (id : List ℕ) (order : Order) (a b : Engine) (result : Result (List ℕ) E)
+    → IfOk result (λ reply. IsDone order id a reply b) → IfOk result (λ reply. IsObeyed files faults faults id order a reply b)
+plain_obeyed files faults id order a b (Ok reply) (said, u, does, text, is) =
+    subst (λ v. IsObeyed files faults faults id order a reply v) (sym is) (no_load, said, plain_obeys a.limits files order a.table u said does, text, refl, refl)
+plain_obeyed files faults id order a b (Err e) h = tt
 
 -- a turn
 pub obeyed_turn : {E : Type 0} (files : Option Files) (before now : ℕ) (id : List ℕ) (ordered order : Order) (c : Colour) (action : Action) (a b : Engine) (result : Result (List ℕ) E) → ordered ≡ order

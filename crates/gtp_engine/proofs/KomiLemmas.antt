@@ -1,6 +1,7 @@
 -- A komi that is asked for is in range.
-use Rattle.std.proofs.Common.{◌≤◌, ◌+◌, ◌*◌, ℕ, ℤ, List, [], ◌∷◌, arith, sym, subst}
-use Rattle.std.proofs.lemmas.Int.{ints}
+use Rattle.std.proofs.Common.{◌≡◌, ◌≤◌, ◌+◌, ◌*◌, ℕ, ℤ, List, [], ◌∷◌, arith, sym, subst, to_z, of_z, w64}
+use Rattle.std.specs.Prelude.{unsigned_abs}
+use Rattle.std.proofs.lemmas.Int.{fits_signed_from_abs, ints, to_z-of_z}
 use Rattle.sgf_go.specs.declared.komi.TheConstants.{MOST_KOMI}
 use Rattle.sgf_go.specs.Komi.{IsKomi, unsigned, positive, negative, IsHalves, halves, IsKomiFraction, nothing, zeros, half, IsInRange}
 use Rattle.gtp_engine.specs.declared.command.Command.{Command}
@@ -8,6 +9,11 @@ use Rattle.gtp_engine.specs.declared.command.Command.TheVariants.{ProtocolVersio
 use Rattle.gtp_engine.specs.inner.Doing.{AsksInRange, HasKomiInRange}
 use Rattle.gtp_engine.specs.Request.{Asked, Asks, FitsArguments, FitsAlone, FitsOne, FitsTwo, Order}
 use Rattle.gtp_engine.specs.Request.Asked.{something, unknown, misfit}
+
+-- a komi in range that is read again
+pub same_komi : (k : ℤ) → IsInRange k → to_z w64 (of_z w64 k) ≡ k
+same_komi k in_range =
+    let modest : unsigned_abs k ≤ 2000000 = omega (arith, ints, in_range.0, in_range.1) in to_z-of_z w64 k (fits_signed_from_abs w64 k (omega (arith, ints, modest)))
 
 at_most_one : (bytes : List ℕ) (digits more : ℕ) → IsKomiFraction bytes digits more → more ≤ 1
 at_most_one _ _ _ nothing = omega arith

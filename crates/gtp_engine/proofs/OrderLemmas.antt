@@ -1,5 +1,5 @@
 -- What single orders leave behind.
-use Rattle.std.proofs.Common.{◌≡◌, ◌≢◌, ◌⊎◌, ◌≤◌, ◌<◌, ℕ, ℤ, List, [], inl, inr, refl, ap, ◌∙◌, subst, Some, None}
+use Rattle.std.proofs.Common.{◌≡◌, ◌≢◌, ◌⊎◌, ◌≤◌, ◌<◌, ℕ, ℤ, List, [], inl, inr, refl, sym, ap, ◌∙◌, subst, Some, None, Ok, Err, Result, IfOk}
 use Rattle.go_grid.specs.declared.grid.Colour.{Colour}
 use Rattle.sgf_go.specs.declared.settings.Setup.{Setup}
 use Rattle.engine_player.specs.EngineGame.{EngineGame}
@@ -9,8 +9,9 @@ use Rattle.gtp_engine.specs.declared.playing.Action.{Action}
 use Rattle.gtp_engine.specs.declared.reply.Refusal.TheVariants.{CannotSolve, GameHasBegun, NotInTurn, UnacceptableSize}
 use Rattle.gtp_engine.specs.inner.Doing.{IsDone, IsFresh, IsRunning, IsTurnTaken, with_table}
 use Rattle.gtp_engine.specs.inner.Playing.{IsActed}
-use Rattle.gtp_engine.specs.Request.Order.{boardsize, komi}
-use Rattle.gtp_engine.specs.Session.{Table, done, fresh, game_limits, refused, reply_text, with_side}
+use Rattle.gtp_engine.specs.Request.{Order}
+use Rattle.gtp_engine.specs.Request.Order.{boardsize, clear_board, komi}
+use Rattle.gtp_engine.specs.Session.{Does, Table, done, fresh, game_limits, refused, reply_text, with_side}
 use Rattle.gtp_engine.specs.Written.{Engine}
 
 pub komi_refused : (a : Engine) (halves : ℤ) (id reply : List ℕ) → IsRunning a → reply ≡ reply_text id (refused GameHasBegun) → IsDone (komi halves) id a reply a
@@ -34,6 +35,22 @@ size_refused a n id reply out said = (refused UnacceptableSize, a.table, inr (ou
 pub size_taken : (a b : Engine) (n : ℕ) (id reply : List ℕ) → 1 ≤ n → n ≤ 25 → b ≡ record a { table = fresh n n a.table.setup.komi_halves }
     → reply ≡ reply_text id (done []) → IsDone (boardsize n) id a reply b
 size_taken a b n id reply some few is said = (done [], fresh n n a.table.setup.komi_halves, inl (some, few, refl, refl), said, is)
+
+-- an order that is answered by a text alone
+pub done_told : {E : Type 0} (id text : List ℕ) (ordered order : Order) (a : Engine) (result : Result (List ℕ) E) → ordered ≡ order → Does a.limits order a.table (done text) a.table
+    → IfOk result (λ reply. reply ≡ reply_text id (done text)) → IfOk result (λ reply. IsDone ordered id a reply a)
+done_told id text ordered order a (Ok reply) is does said = subst (λ o. IsDone o id a reply a) (sym is) (done text, a.table, does, said, refl)
+done_told id text ordered order a (Err e) is does said = tt
+
+-- a fresh board
+pub done_cleared : {E : Type 0} (id : List ℕ) (columns rows : ℕ) (ordered : Order) (a b : Engine) (result : Result (List ℕ) E) → ordered ≡ clear_board
+    → columns ≡ a.table.setup.board.columns → rows ≡ a.table.setup.board.rows
+    → IfOk result (λ reply. (reply ≡ reply_text id (done [])) × (b ≡ record a { table = fresh columns rows a.table.setup.komi_halves })) → IfOk result (λ reply. IsDone ordered id a reply b)
+done_cleared id columns rows ordered a b (Ok reply) is same_columns same_rows d =
+    let halves = a.table.setup.komi_halves in
+    let board = ap (λ n. fresh n rows halves) same_columns ∙ ap (λ n. fresh a.table.setup.board.columns n halves) same_rows in
+    subst (λ o. IsDone o id a reply b) (sym is) (done [], fresh columns rows halves, (refl, board), d.0, d.1)
+done_cleared id columns rows ordered a b (Err e) is same_columns same_rows d = tt
 
 -- the other colour is to move
 pub turn_refused : (a b : Engine) (c : Colour) (action : Action) (s : EngineGame) (id reply : List ℕ) → a.table.game ≡ Some s → s.state.side ≢ c → b ≡ a

@@ -1,17 +1,18 @@
 //! The engine.
 
-ghost use Rattle.std.specs.Prelude.{◌≡◌, ◌≤◌, ◌<◌, ◌+◌, List, ℕ, [], true, false, IfOk, OnErr};
+ghost use Rattle.std.specs.Prelude.{◌≡◌, ◌≤◌, ◌<◌, ◌+◌, List, ℕ, [], Some, true, false, IfOk, OnErr};
 ghost use Rattle.endgame_solver.specs.Faults.{most_steps};
 ghost use Rattle.go_grid.specs.Region.{Region};
 ghost use Rattle.region_cut.specs.Cut.{AreRegionsOfPlay};
 ghost use Rattle.sgf_go.specs.Komi.{IsInRange};
 ghost use Rattle.sgf_go.specs.Position.{IsFit};
-ghost use Rattle.gtp_engine.specs.inner.Doing.{AsksInRange, CanKeep, HasKomiInRange, IsDone, IsFresh, IsLoadNoted, IsRunning, IsTurnTaken};
+ghost use Rattle.gtp_words.specs.declared.loading.Loading.TheVariants.{Position};
+ghost use Rattle.gtp_engine.specs.inner.Doing.{AsksInRange, CanKeep, HasKomiInRange, IsDone, IsFresh, IsLoadNoted, IsPlainOrder, IsRunning, IsTurnTaken, with_table};
 ghost use Rattle.gtp_engine.specs.inner.Viewed.{asked_of, order_of};
 ghost use Rattle.gtp_engine.specs.Kept.{HasRoomFor, LeavesRoom};
 ghost use Rattle.gtp_engine.specs.Request.Asked.{something};
 ghost use Rattle.gtp_engine.specs.Request.Order.{boardsize, komi, loadsgf};
-ghost use Rattle.gtp_engine.specs.Session.{SaysWhetherKnown, done, fresh, game_limits, is_last, reply_text};
+ghost use Rattle.gtp_engine.specs.Session.{SaysWhetherKnown, done, fresh, game_limits, is_last, refused, reply_text, with_side};
 ghost use Rattle.gtp_engine.specs.Written.{IsEngineReply, unused};
 ghost use Rattle.gtp_engine.specs.inner.Written.{IsMet, IsObeyed};
 
@@ -24,7 +25,7 @@ use crate::setups::fresh;
 use desk_io::Shelf;
 use engine_player::Player;
 use game_text::Text;
-use go_grid::Size;
+use go_grid::{Colour, Size};
 use gtp_words::{Answer, Loading, Loads, MOST_LOADS, clean, load, split, take_id};
 use local_graph::MOST_POSITIONS;
 use local_play::Steps;
@@ -35,7 +36,7 @@ use std::sync::ledger::Ledger;
 use std::{mem, str};
 
 /// A setup, and the game that runs after it, if one does; and the loads so far. Contracts see these and the limits.
-#[derive(Debug, Drop)]
+#[derive(Drop)]
 pub struct Engine {
     pub(crate) limits: EngineLimits,
     pub(crate) setup: Setup,
@@ -79,6 +80,15 @@ fn is_quit(request: &Request<'_>) -> bool
     matches!(request, Request::Quit)
 }
 
+/// A refusal after which the session goes on.
+fn refusal(alloc: Global, id: &[u8], why: Refusal) -> Result<Answer, AllocError>
+    ensures reply { IfOk result (λ answer. answer.reply ≡ reply_text id.now (refused why)) }
+    ensures quit { IfOk result (λ answer. answer.quit ≡ false) }
+{
+    let reply = refuse(alloc, id, why)?;
+    Ok(Answer { reply, quit: false })
+}
+
 impl Engine {
     /// An engine with an empty board of 19 by 19, no komi and Black to move.
     pub fn new(alloc: Global, limits: EngineLimits) -> Result<Engine, AllocError>
@@ -114,6 +124,16 @@ impl Engine {
         self.setup = setup;
         // A game is large: as a call its drop is one step of the proof.
         drop(mem::replace(&mut self.game, game));
+    }
+
+    /// Begins a game with the colour to move.
+    pub(crate) fn start(&mut self, colour: Colour, game: Player)
+        ensures { self.new ≡ with_table self.old
+            (record { setup = with_side self.old.table.setup colour; game = Some game }) }
+    {
+        self.setup.side = colour;
+        // As in `put`.
+        drop(mem::replace(&mut self.game, Some(game)));
     }
 
     /// A fresh empty board of a size with the present komi.
@@ -178,6 +198,27 @@ impl Engine {
         Ok(reply)
     }
 
+    /// Takes up the position of a file, or leaves all as it was where memory is refused.
+    fn take_up(&mut self, id: &[u8], setup: Setup) -> Result<Text, AllocError>
+        requires few { self.old.loads.count < MOST_LOADS }
+        requires fit { CanKeep (Position setup) }
+        ensures noted { IfOk result (λ reply. IsLoadNoted
+            id.now (Position setup) self.old reply self.new) }
+        ensures same { OnErr result (self.new ≡ self.old) }
+    {
+        match accept(self.setup.board.allocator(), id, b"") {
+            Ok(reply) => {
+                self.put(setup, None);
+                self.loads.note_made();
+                Ok(reply)
+            }
+            Err(cause) => {
+                drop(setup);
+                Err(cause)
+            }
+        }
+    }
+
     /// Notes what a load comes to.
     fn note(&mut self, id: &[u8], loading: Loading) -> Result<Text, AllocError>
         requires few { self.old.loads.count < MOST_LOADS }
@@ -186,19 +227,15 @@ impl Engine {
         ensures same { OnErr result (self.new ≡ self.old) }
     {
         let alloc = self.setup.board.allocator();
-        let refused = refuse(alloc, id, Refusal::CannotLoadFile)?;
         match loading {
-            Loading::Position(setup) => {
-                let reply = accept(alloc, id, b"")?;
-                self.put(setup, None);
-                self.loads.note_made();
-                Ok(reply)
-            }
+            Loading::Position(setup) => self.take_up(id, setup),
             Loading::Nothing => {
+                let refused = refuse(alloc, id, Refusal::CannotLoadFile)?;
                 self.loads.note_made();
                 Ok(refused)
             }
             Loading::Failed => {
+                let refused = refuse(alloc, id, Refusal::CannotLoadFile)?;
                 self.loads.note_failed()?;
                 Ok(refused)
             }
@@ -229,6 +266,35 @@ impl Engine {
         self.note(id, loading)
     }
 
+    /// Does what a request that asks for neither a file nor a turn says.
+    fn obey_plain(&mut self, id: &[u8], request: Request<'_>) -> Result<Text, AllocError>
+        requires plain { IsPlainOrder (order_of request) }
+        requires komi { HasKomiInRange (order_of request) }
+        ensures obeyed { IfOk result (λ reply. IsDone
+            (order_of request.entry) id.now self.old reply self.new) }
+        ensures same { OnErr result (self.new ≡ self.old) }
+    {
+        let alloc = self.setup.board.allocator();
+        match request {
+            Request::ProtocolVersion => accept(alloc, id, b"2"),
+            Request::Name => accept(alloc, id, b"gdsolve"),
+            Request::Version => accept(alloc, id, b"1"),
+            Request::KnownCommand(word) => accept(alloc, id, known(word)),
+            Request::ListCommands => accept(alloc, id, ALL_COMMANDS),
+            Request::BoardSize(number) => self.resize(id, number),
+            Request::ClearBoard => {
+                let size = self.setup.board.size();
+                self.clear(id, size)
+            }
+            Request::Komi(halves) => self.set_komi(id, halves),
+            // These ask for a turn or a file.
+            Request::Play(_, _) => unreachable!(),
+            Request::GenMove(_) => unreachable!(),
+            Request::LoadSgf(_, _) => unreachable!(),
+            Request::Quit => accept(alloc, id, b""),
+        }
+    }
+
     /// Does what a request says.
     fn obey<H: Shelf, L: Ledger>(
         &mut self,
@@ -249,25 +315,13 @@ impl Engine {
             → AreRegionsOfPlay self.old.table.setup.board regions
             → steps.new ≤ steps.old + most_steps (game_limits self.old.limits) regions }
     {
-        let alloc = self.setup.board.allocator();
         match request {
-            Request::ProtocolVersion => accept(alloc, id, b"2"),
-            Request::Name => accept(alloc, id, b"gdsolve"),
-            Request::Version => accept(alloc, id, b"1"),
-            Request::KnownCommand(word) => accept(alloc, id, known(word)),
-            Request::ListCommands => accept(alloc, id, ALL_COMMANDS),
-            Request::BoardSize(number) => self.resize(id, number),
-            Request::ClearBoard => {
-                let size = self.setup.board.size();
-                self.clear(id, size)
-            }
-            Request::Komi(halves) => self.set_komi(id, halves),
             Request::Play(colour, wanted) => {
                 self.take_turn(id, colour, Action::Play(wanted), steps)
             }
             Request::GenMove(colour) => self.take_turn(id, colour, Action::Generate, steps),
             Request::LoadSgf(file, after) => self.load_file(id, file, after, shelf),
-            Request::Quit => accept(alloc, id, b""),
+            plain => self.obey_plain(id, plain),
         }
     }
 
@@ -299,14 +353,8 @@ impl Engine {
                 let reply = self.obey(id, request, shelf, steps)?;
                 Ok(Answer { reply, quit })
             }
-            Asked::Unknown => {
-                let reply = refuse(alloc, id, Refusal::UnknownCommand)?;
-                Ok(Answer { reply, quit: false })
-            }
-            Asked::Misfit => {
-                let reply = refuse(alloc, id, Refusal::SyntaxError)?;
-                Ok(Answer { reply, quit: false })
-            }
+            Asked::Unknown => refusal(alloc, id, Refusal::UnknownCommand),
+            Asked::Misfit => refusal(alloc, id, Refusal::SyntaxError),
         }
     }
 

@@ -6,7 +6,7 @@ ghost use Rattle.gtp_engine.specs.Session.{game_limits};
 use endgame_solver::Limits;
 
 /// What bounds the games of an engine, and how it reads files. There is no tax.
-#[derive(Clone, Copy, Debug, PartialEq, Eq)]
+#[derive(Clone, Copy)]
 pub struct EngineLimits {
     /// The most positions of a region.
     pub positions: u32,

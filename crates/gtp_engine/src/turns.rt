@@ -1,17 +1,21 @@
 //! Turns: of a running game, and of one that a setup opens.
 
-ghost use Rattle.std.specs.Prelude.{◌≡◌, ◌↔◌, ◌≤◌, ◌+◌, List, true, IfOk, OnErr};
+ghost use Rattle.std.specs.Prelude.{◌≡◌, ◌↔◌, ◌≤◌, ◌+◌, List, Some, true, IfOk, OnErr};
 ghost use Rattle.endgame_solver.specs.Faults.{most_steps};
 ghost use Rattle.go_grid.specs.Region.{Region};
 ghost use Rattle.region_cut.specs.Cut.{AreRegionsOfPlay};
+ghost use Rattle.engine_player.specs.EngineGame.{EngineGame};
+ghost use Rattle.engine_player.specs.Room.{CanTake};
 ghost use Rattle.gtp_engine.specs.Kept.{HasRoomFor};
-ghost use Rattle.gtp_engine.specs.Session.{game_limits};
-ghost use Rattle.gtp_engine.specs.inner.Doing.{IsFresh, IsRunning, IsTurnTaken};
+ghost use Rattle.gtp_engine.specs.Session.{game_limits, with_side};
+ghost use Rattle.gtp_engine.specs.inner.Doing.{IsFresh, IsRunning, IsTurnTaken, with_table};
+ghost use Rattle.gtp_engine.specs.inner.Playing.{IsActed, IsOpened};
 
 use crate::engine::Engine;
 use crate::playing::{Action, act, open};
 use crate::reply::{Refusal, refuse};
 use crate::setups::with_side;
+use engine_player::Player;
 use game_text::Text;
 use go_grid::Colour;
 use local_play::Steps;
@@ -49,6 +53,53 @@ impl Engine {
         }
     }
 
+    /// The game that the setup opens with the colour to move, if it opens one.
+    fn opened<L: Ledger>(
+        &self,
+        colour: Colour,
+        steps: &mut Steps<L>,
+    ) -> Result<Option<Player>, AllocError>
+        ensures opened { IfOk result (IsOpened self.now.limits.cycles
+            (game_limits self.now.limits) (with_side self.now.table.setup colour)) }
+        ensures steps { (regions : List Region)
+            → AreRegionsOfPlay self.now.table.setup.board regions
+            → steps.new ≤ steps.old + most_steps (game_limits self.now.limits) regions }
+    {
+        let setup = with_side(&self.setup, colour)?;
+        let limits = self.limits.of_game();
+        let alloc = self.setup.board.allocator();
+        let game = open(alloc, &setup, &limits, self.limits.cycles, steps);
+        drop(setup);
+        game
+    }
+
+    /// The first turn in a game that the setup has opened with the colour to move.
+    fn begin(
+        &mut self,
+        id: &[u8],
+        colour: Colour,
+        action: Action,
+        mut game: Player,
+    ) -> Result<Text, AllocError>
+        requires room { CanTake 1 game }
+        ensures begun { IfOk result (λ reply. (after : EngineGame)
+            × IsActed action id.now game reply after
+            × (self.new ≡ with_table self.old
+            (record { setup = with_side self.old.table.setup colour; game = Some after }))) }
+        ensures same { OnErr result (self.new ≡ self.old) }
+    {
+        match act(self.setup.board.allocator(), id, &mut game, action) {
+            Ok(reply) => {
+                self.start(colour, game);
+                Ok(reply)
+            }
+            Err(cause) => {
+                drop(game);
+                Err(cause)
+            }
+        }
+    }
+
     /// A turn of the colour in the game that the fresh setup opens.
     fn set_out<L: Ledger>(
         &mut self,
@@ -65,22 +116,10 @@ impl Engine {
             → AreRegionsOfPlay self.old.table.setup.board regions
             → steps.new ≤ steps.old + most_steps (game_limits self.old.limits) regions }
     {
-        let alloc = self.setup.board.allocator();
-        let setup = with_side(&self.setup, colour)?;
-        let limits = self.limits.of_game();
-        let Some(mut game) = open(alloc, &setup, &limits, self.limits.cycles, steps)? else {
-            let reply = refuse(alloc, id, Refusal::CannotSolve)?;
-            return Ok(reply);
-        };
-        match act(alloc, id, &mut game, action) {
-            Ok(reply) => {
-                self.put(setup, Some(game));
-                Ok(reply)
-            }
-            Err(cause) => {
-                drop(game);
-                Err(cause)
-            }
+        let opened = self.opened(colour, steps)?;
+        match opened {
+            Some(game) => self.begin(id, colour, action, game),
+            None => refuse(self.setup.board.allocator(), id, Refusal::CannotSolve),
         }
     }
 

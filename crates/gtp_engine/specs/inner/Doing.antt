@@ -12,7 +12,7 @@ use Rattle.sgf_go.specs.Komi.{IsInRange}
 use Rattle.sgf_go.specs.Position.{IsFit}
 use Rattle.gtp_engine.specs.Request.{Asked, Order}
 use Rattle.gtp_engine.specs.Request.Asked.{something}
-use Rattle.gtp_engine.specs.Request.Order.{komi}
+use Rattle.gtp_engine.specs.Request.Order.{genmove, komi, loadsgf, play}
 use Rattle.gtp_engine.specs.Session.{Does, Said, Table, TakesTurn, done, refused, reply_text}
 use Rattle.gtp_engine.specs.Written.{Engine}
 
@@ -42,6 +42,13 @@ IsLoadNoted id (Position setup) a reply b = (reply ≡ reply_text id (done []))
     × (b ≡ record a { table = record { setup = setup; game = None }; loads = made_more a.loads })
 IsLoadNoted id Nothing a reply b = (reply ≡ reply_text id (refused CannotLoadFile)) × (b ≡ record a { loads = made_more a.loads })
 IsLoadNoted id Failed a reply b = (reply ≡ reply_text id (refused CannotLoadFile)) × (b ≡ record a { loads = failed_more a.loads })
+
+-- the order asks for neither a file nor a turn
+abbrev pub IsPlainOrder : Order → Type 0
+IsPlainOrder (loadsgf file after) = ⊥
+IsPlainOrder (play c wanted) = ⊥
+IsPlainOrder (genmove c) = ⊥
+IsPlainOrder order = Unit {0}
 
 -- a komi that is ordered is in range
 abbrev pub HasKomiInRange : Order → Type 0

@@ -1,9 +1,9 @@
-use Rattle.std.proofs.Common.{length, map, sym, ap, ◌∙◌, subst}
+use Rattle.std.proofs.Common.{length, map, sym, ap, ◌∙◌, subst, arith, refl}
 use Rattle.gtp_engine.specs.inner.Viewed.{asked_of}
 use Rattle.gtp_words.specs.Words.{AreWords, HasId}
 use Rattle.gtp_engine.proofs.AnswerLemmas.{answered_words, some_words}
 use Rattle.gtp_engine.proofs.KomiLemmas.{asks_in_range}
-use Rattle.gtp_engine.proofs.RoomLemmas.{reply_room}
+use Rattle.gtp_engine.proofs.RoomLemmas.{reply_room, same_room}
 use Rattle.gtp_engine.proofs.engine.Engine.answer.Goals as goal
 
 pub meet-requires-clause-komi : goal.meet-requires-clause-komi
@@ -24,3 +24,21 @@ pub returns-clause-room : goal.returns-clause-room
 returns-clause-room g c =
     reply_room (g.H.Shelf.files c.args.shelf.now) (g.H.Shelf.faults c.args.shelf.now) (g.H.Shelf.faults c.meet.new.shelf) c.args.line.now c.in_ok-answer.answer.reply
     c.args.self.now c.meet.new.self c.in_ok-answer.answer.quit (returns-clause-answered g c)
+
+pub returns-in_err-text-clause-room : goal.returns-in_err-text-clause-room
+returns-in_err-text-clause-room g c = same_room c.args.self.now.table c.args.self.now.table refl
+
+pub returns-in_err-text-clause-steps : goal.returns-in_err-text-clause-steps
+returns-in_err-text-clause-steps g c regions are = omega arith
+
+pub returns-in_err-words-clause-room : goal.returns-in_err-words-clause-room
+returns-in_err-words-clause-room g c = same_room c.args.self.now.table c.args.self.now.table refl
+
+pub returns-in_err-words-clause-steps : goal.returns-in_err-words-clause-steps
+returns-in_err-words-clause-steps g c regions are = omega arith
+
+pub returns-then-is_empty-clause-room : goal.returns-then-is_empty-clause-room
+returns-then-is_empty-clause-room g c = same_room c.args.self.now.table c.args.self.now.table refl
+
+pub returns-then-is_empty-clause-steps : goal.returns-then-is_empty-clause-steps
+returns-then-is_empty-clause-steps g c regions are = omega arith

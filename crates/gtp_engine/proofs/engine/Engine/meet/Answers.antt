@@ -1,14 +1,28 @@
-use Rattle.std.proofs.Common.{ap}
+use Rattle.std.proofs.Common.{◌∙◌, ap, subst, sym}
+use Rattle.std.proofs.lemmas.Result.{IfOk-weaker}
+use Rattle.gtp_engine.specs.Session.{is_last}
+use Rattle.gtp_engine.specs.inner.Written.{IsMet}
 use Rattle.gtp_engine.specs.inner.Viewed.{asked_of}
 use Rattle.gtp_engine.proofs.AnswerLemmas.{met_misfit, met_unknown}
 use Rattle.gtp_engine.proofs.engine.Engine.meet.Goals as goal
 
-pub returns-in_ok-reply-in-Unknown-clause-met : goal.returns-in_ok-reply-in-Unknown-clause-met
-returns-in_ok-reply-in-Unknown-clause-met g c =
+pub returns-in-Unknown-clause-met : goal.returns-in-Unknown-clause-met
+returns-in-Unknown-clause-met g c =
     let files = g.H.Shelf.files c.args.shelf.now in let faults = g.H.Shelf.faults c.args.shelf.now in
-    met_unknown files faults faults c.args.id.now (asked_of c.args.asked) c.args.self.now c.in_ok-reply-in-Unknown.reply (ap asked_of c.in-Unknown.is) c.in_ok-reply-in-Unknown.ensures
+    IfOk-weaker c.refusal.result _ _ (λ answer said. met_unknown files faults faults c.args.id.now (asked_of c.args.asked) c.args.self.now answer.reply (ap asked_of c.in-Unknown.is) said) c.refusal.ensures.reply
 
-pub returns-in_ok-reply-in-Misfit-clause-met : goal.returns-in_ok-reply-in-Misfit-clause-met
-returns-in_ok-reply-in-Misfit-clause-met g c =
+pub returns-in-Unknown-clause-quit : goal.returns-in-Unknown-clause-quit
+returns-in-Unknown-clause-quit g c = IfOk-weaker c.refusal.result _ _ (λ answer goes_on. goes_on ∙ sym (ap (λ a. is_last (asked_of a)) c.in-Unknown.is)) c.refusal.ensures.quit
+
+pub returns-in-Misfit-clause-met : goal.returns-in-Misfit-clause-met
+returns-in-Misfit-clause-met g c =
     let files = g.H.Shelf.files c.args.shelf.now in let faults = g.H.Shelf.faults c.args.shelf.now in
-    met_misfit files faults faults c.args.id.now (asked_of c.args.asked) c.args.self.now c.in_ok-reply-in-Misfit.reply (ap asked_of c.in-Misfit.is) c.in_ok-reply-in-Misfit.ensures
+    IfOk-weaker c.refusal-in-Misfit.result _ _ (λ answer said. met_misfit files faults faults c.args.id.now (asked_of c.args.asked) c.args.self.now answer.reply (ap asked_of c.in-Misfit.is) said) c.refusal-in-Misfit.ensures.reply
+
+pub returns-in-Misfit-clause-quit : goal.returns-in-Misfit-clause-quit
+returns-in-Misfit-clause-quit g c = IfOk-weaker c.refusal-in-Misfit.result _ _ (λ answer goes_on. goes_on ∙ sym (ap (λ a. is_last (asked_of a)) c.in-Misfit.is)) c.refusal-in-Misfit.ensures.quit
+
+pub returns-in_ok-reply-in-Something-clause-met : goal.returns-in_ok-reply-in-Something-clause-met
+returns-in_ok-reply-in-Something-clause-met g c =
+    subst (λ x. IsMet (g.H.Shelf.files c.args.shelf.now) (g.H.Shelf.faults c.args.shelf.now) (g.H.Shelf.faults c.obey.new.shelf) c.args.id.now x c.args.self.now c.in_ok-reply-in-Something.reply c.obey.new.self)
+    (sym (ap asked_of c.in-Something.is)) c.in_ok-reply-in-Something.ensures.obeyed
