@@ -20,7 +20,7 @@ ghost use Rattle.endgame_solver.specs.inner.Views.{IsSeen};
 
 use crate::balance::{balance_halves, balance_of};
 use crate::thresholds::{least_win, margin_from};
-use crate::winning_moves::{Present, stone_edge, value_seen};
+use crate::winning_moves::{Present, loses_with, stone_edge, value_seen};
 use game_store::{GameId, Store};
 use go_grid::{Colour, Point};
 use sum_outcome::Search;
@@ -28,7 +28,7 @@ use whole_rules::Purses;
 
 /// The game that a stone takes out of the sum, the one that it puts in its place, and the least number of halves of a point
 /// beside which Black then wins.
-#[derive(Clone, Copy, Debug)]
+#[derive(Clone, Copy)]
 pub(crate) struct Answered {
     pub before: GameId,
     pub after: GameId,
@@ -208,8 +208,5 @@ pub(crate) fn loses_after(
     if let Some(least) = known_least(answered, before, after) {
         return loses_where(first, is_reached(least, balance_halves(purses)));
     }
-    sum[place] = after;
-    let lost = search.loses(store, sum, balance_of(purses), first);
-    sum[place] = before;
-    lost
+    loses_with(store, search, sum, place, after, balance_of(purses), first)
 }

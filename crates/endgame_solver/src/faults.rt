@@ -6,12 +6,13 @@ ghost use Rattle.endgame_solver.specs.declared.faults.SolveError.TheVariants.{Me
 use crate::cycle_names::CycleNames;
 use go_grid::Point;
 use std::alloc::{AllocError, AllocFailed};
+use std::fmt;
 
 /// Why a position isn't solved. A region is named by its lowest point.
-#[derive(Debug, Drop, thiserror::Error)]
+#[derive(Drop, thiserror::Error)]
 pub enum SolveError {
     /// A region has more than 32 points. Their number.
-    #[error("a region of {1} points")]
+    #[error(fmt = large_region)]
     Points(Point, u16),
     /// More positions of a region are reachable than the limit.
     #[error("too many positions in a region")]
@@ -25,6 +26,20 @@ pub enum SolveError {
     Form(Point),
     #[error("out of memory")]
     Memory(AllocError),
+}
+
+impl fmt::Debug for SolveError {
+    fn fmt<W: fmt::Write>(&self, f: &mut fmt::Formatter<W>) -> fmt::Result {
+        fmt::Display::fmt(self, f)
+    }
+}
+
+fn large_region<W: fmt::Write>(
+    _lowest: &Point,
+    points: &u16,
+    f: &mut fmt::Formatter<W>,
+) -> fmt::Result {
+    write!(f, "a region of {points} points")
 }
 
 impl From<AllocError> for SolveError {

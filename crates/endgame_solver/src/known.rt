@@ -14,6 +14,14 @@ pub struct Known {
     pub search: Search,
 }
 
+/// Takes note of 0.
+fn note_zero(known: &mut Known) -> Result<(), AllocError>
+    requires { Fits known.old.store known.old.search }
+    ensures { Fits known.new.store known.new.search }
+{
+    known.search.note_zero(&mut known.store)
+}
+
 /// A store and a search for a new game.
 pub fn first_known(alloc: Global) -> Result<Known, AllocError>
     ensures { IfOk result (λ known. Fits known.store known.search) }
@@ -23,6 +31,11 @@ pub fn first_known(alloc: Global) -> Result<Known, AllocError>
         store: Store::new(alloc),
         search,
     };
-    known.search.note_zero(&mut known.store)?;
-    Ok(known)
+    match note_zero(&mut known) {
+        Ok(()) => Ok(known),
+        Err(fault) => {
+            drop(known);
+            Err(fault)
+        }
+    }
 }

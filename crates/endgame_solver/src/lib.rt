@@ -14,6 +14,7 @@ mod outcomes;
 mod region_values;
 mod regions_of_play;
 mod solved;
+mod solved_regions;
 mod thresholds;
 mod view_book;
 mod views;

@@ -12,7 +12,7 @@ ghost use Rattle.endgame_solver.specs.inner.Line.{TellsKeeping, TellsNext, last_
 ghost use Rattle.endgame_solver.specs.inner.Views.{IsSeen};
 
 use crate::balance::{balance_halves, of_halves};
-use crate::winning_moves::{Present, stone_edge, value_seen};
+use crate::winning_moves::{Present, loses_with, stone_edge, value_seen};
 use dyadic_num::Dyadic;
 use game_store::{Form, GameId, Store};
 use go_grid::{Colour, Point};
@@ -43,13 +43,24 @@ fn last_above(side: Colour, beyond: i64) -> i64
     }
 }
 
+/// What is left of a balance in halves of a point.
+fn rest_of(balance: i128, above: i64) -> i128
+    requires balance { unsigned_abs balance ≤ 2 ^ 45 }
+    requires above { unsigned_abs above ≤ 2 ^ 46 + 1 }
+    ensures left { result ≡ balance -ℤ above }
+    ensures small { unsigned_abs result ≤ 2 ^ 47 }
+{
+    balance - i128::from(above)
+}
+
 /// The balance of the purses with the last komi with which this player wins.
 fn last_balance(purses: Purses, side: Colour, beyond: i64) -> Dyadic
     requires modest { AreModest purses }
     requires small { unsigned_abs beyond ≤ 2 ^ 46 }
     ensures { result ≡ (balance purses -ℤ last_won side beyond) *ℤ pos (2 ^ 59) }
 {
-    of_halves(balance_halves(purses) - i128::from(last_above(side, beyond)))
+    let above = last_above(side, beyond);
+    of_halves(rest_of(balance_halves(purses), above))
 }
 
 /// Whether a stone of the side to move at the point is in a region that is no number, and leaves the threshold as it is,
@@ -82,16 +93,15 @@ fn keeps_threshold(
         return false;
     }
     let purses = present.whole.purses().paid_in(side, u64::from(edge.taken));
-    let before = sum[k];
-    sum[k] = value_seen(present.book, k, edge.next);
-    let lost = search.loses(
+    loses_with(
         present.store,
+        search,
         sum,
+        k,
+        value_seen(present.book, k, edge.next),
         last_balance(purses, side, beyond),
         side.other(),
-    );
-    sum[k] = before;
-    lost
+    )
 }
 
 /// The next stone of the line of play, where the threshold is so many halves of a point above the komi: of the best stones

@@ -26,12 +26,11 @@ ghost use Rattle.endgame_solver.specs.Solved.{Begun, IsNumberOfShapes, IsPresent
 use crate::asked::{Answered, stone_margin};
 use crate::balance::balance_of;
 use crate::faults::SolveError;
-use crate::known::first_known;
 use crate::limits::Limits;
 use crate::line_of_play::next_stone;
 use crate::outcomes::outcome;
-use crate::region_values::solve_regions;
-use crate::regions_of_play::{first_large, opening_of, start_of};
+use crate::regions_of_play::opening_of;
+use crate::solved_regions::solve_openings;
 use crate::thresholds::{margin, raised};
 use crate::view_book::Book;
 use crate::winning_moves::{
@@ -51,7 +50,7 @@ use whole_rules::{Move, MoveError, Whole};
 
 /// What is known of a region at the opening: its lowest point, how many points it has, how many positions are reachable,
 /// and the value of the opening.
-#[derive(Clone, Copy, Debug, PartialEq, Eq)]
+#[derive(Clone, Copy)]
 pub struct RegionReport {
     pub lowest: Point,
     pub points: u16,
@@ -61,7 +60,7 @@ pub struct RegionReport {
 
 /// A state of the whole game with its regions of play, all of whose positions have their values. Contracts see the
 /// regions, the trees of the store and the present state.
-#[derive(Debug, Drop)]
+#[derive(Drop)]
 pub struct Solved {
     whole: Whole,
     store: Store,
@@ -115,17 +114,14 @@ impl Solved {
             → steps.new ≤ steps.old + most_steps limits.now regions }
     {
         let opening = opening_of(alloc, setup, limits.tax)?;
-        if let Some((lowest, points)) = first_large(&opening.regions) {
-            return Err(SolveError::Points(lowest, points));
-        }
-        let mut known = first_known(alloc)?;
-        let book = solve_regions(alloc, &opening.regions, limits, &mut known.store, steps)?;
-        let start = start_of(alloc, &book)?;
+        let found = solve_openings(alloc, &opening.regions, limits, steps)?;
+        let known = found.known;
+        let start = found.start;
         Ok(Solved {
             whole: opening.whole,
             store: known.store,
             regions: opening.regions,
-            book,
+            book: found.book,
             places: start.places,
             sum: start.sum,
             search: known.search,

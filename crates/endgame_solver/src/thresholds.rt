@@ -32,6 +32,14 @@ pub(crate) struct StopSums {
     pub left: i128,
 }
 
+/// The sum of two numbers.
+fn sum_of(one: i128, other: i128) -> i128
+    requires { unsigned_abs one + unsigned_abs other < 2 ^ 120 }
+    ensures { result ≡ one +ℤ other }
+{
+    one + other
+}
+
 impl StopSums {
     /// Of no games.
     fn nothing() -> StopSums
@@ -50,8 +58,8 @@ impl StopSums {
         } }
     {
         StopSums {
-            right: self.right + other.right,
-            left: self.left + other.left,
+            right: sum_of(self.right, other.right),
+            left: sum_of(self.left, other.left),
         }
     }
 

@@ -31,7 +31,7 @@ pub(crate) struct Kind {
 }
 
 /// The graphs and values of the regions, one graph for each shape, and where each region finds its own.
-#[derive(Debug, Drop)]
+#[derive(Drop)]
 pub(crate) struct Book {
     pub graphs: Vec<Graph>,
     pub values: Vec<Values>,

@@ -9,7 +9,7 @@ use local_graph::Edge;
 
 /// Where the graph and the values of a region stand, and how the graph's places are the region's: place `i` of the graph is
 /// place `places[i]` of the region, and the two colours are exchanged exactly where `colours` is true.
-#[derive(Clone, Copy, Debug)]
+#[derive(Clone, Copy)]
 pub(crate) struct View {
     pub graph: usize,
     pub values: usize,

@@ -1,11 +1,14 @@
 //! Who wins the present state, and by which moves: each is asked of the sum of the values that the move leaves.
 
-ghost use Rattle.std.specs.Prelude.{◌≡◌, ℕ, ◌<◌, ◌↔◌, Contains, IfSome, IsTrue, List, MatchOption, length, slice_index};
+ghost use Rattle.std.specs.Prelude.{◌≡◌, ℕ, ◌<◌, ◌↔◌, Contains, IfSome, IsTrue, List, MatchOption, length, slice_index, slice_set};
 ghost use Rattle.go_grid.specs.declared.grid.Colour.{Colour};
 ghost use Rattle.local_graph.specs.declared.graph.Edge.{Edge};
 ghost use Rattle.whole_rules.specs.declared.states.Move.TheVariants.{Stone, Spend};
 ghost use Rattle.whole_rules.specs.FirstWinningMove.{IsFirstWinning, IsLosing, IsWinning};
+ghost use Rattle.game_store.specs.Meaning.{AreIds, pick};
 ghost use Rattle.sum_outcome.specs.Memo.{Fits};
+ghost use Rattle.sum_outcome.specs.Players.{LosesGame};
+ghost use Rattle.sum_outcome.specs.Sums.{IsBounded, sum_tree};
 ghost use Rattle.endgame_solver.specs.Regions.{IsStoneAt};
 ghost use Rattle.endgame_solver.specs.inner.Held.{IsStoneEdge, IsFirstStone};
 ghost use Rattle.endgame_solver.specs.inner.Views.{HasGraph, HasValue, IsSeen, ShowsAll, ShowsPlaces, own, seen_graph, seen_ids, view_at};
@@ -15,6 +18,7 @@ ghost use Rattle.local_graph.specs.inner.Graph.{edges_at};
 use crate::balance::balance_of;
 use crate::view_book::Book;
 use crate::views::View;
+use dyadic_num::Dyadic;
 use game_store::{GameId, Store};
 use go_grid::{Colour, Point, Region};
 use local_graph::Edge;
@@ -155,6 +159,33 @@ pub(crate) fn positions_seen(book: &Book, region: usize) -> usize
     book.graphs[view.graph].len()
 }
 
+/// Whether the player who moves first loses the sum with this game at the place, beside a number. The sum is as before at the
+/// end.
+pub(crate) fn loses_with(
+    store: &Store,
+    search: &mut Search,
+    sum: &mut [GameId],
+    place: usize,
+    after: GameId,
+    number: Dyadic,
+    first: Colour,
+) -> bool
+    requires place { place < length sum.old }
+    requires ids { AreIds store.now (slice_set sum.old place after) }
+    requires bounds { IsBounded (pick store.now (slice_set sum.old place after)) number }
+    requires fits { Fits store.now search.old }
+    ensures answer { IsTrue result
+        ↔ LosesGame first (sum_tree store.now (slice_set sum.old place after) number) }
+    ensures same { sum.new ≡ sum.old }
+    ensures fits { Fits store.now search.new }
+{
+    let before = sum[place];
+    sum[place] = after;
+    let lost = search.loses(store, sum, number, first);
+    sum[place] = before;
+    lost
+}
+
 /// Whether a stone of the side to move at the point wins. The sum is as before at the end.
 pub(crate) fn stone_wins(
     present: &Present<'_>,
@@ -177,11 +208,15 @@ pub(crate) fn stone_wins(
         return false;
     };
     let purses = present.whole.purses().paid_in(side, u64::from(edge.taken));
-    let before = sum[k];
-    sum[k] = value_seen(present.book, k, edge.next);
-    let lost = search.loses(present.store, sum, balance_of(purses), side.other());
-    sum[k] = before;
-    lost
+    loses_with(
+        present.store,
+        search,
+        sum,
+        k,
+        value_seen(present.book, k, edge.next),
+        balance_of(purses),
+        side.other(),
+    )
 }
 
 /// Whether it wins to give back a point.

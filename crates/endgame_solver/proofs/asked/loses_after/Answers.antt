@@ -1,28 +1,23 @@
-use Rattle.std.proofs.Common.{◌↔◌, ◌≤ℤ◌, ◌∙◌, IsTrue, ap, arith, get_or, refl, set, subst, sym}
+use Rattle.std.proofs.Common.{◌↔◌, ◌≤ℤ◌, IsTrue, arith, refl, set, subst, sym}
 use Rattle.short_games.specs.Number.{num}
 use Rattle.short_games.specs.Sum.{◌+ᵍ◌, total}
 use Rattle.game_store.specs.Meaning.{pick}
 use Rattle.sum_outcome.specs.Players.{LosesGame}
-use Rattle.sum_outcome.proofs.ListLaws.{put_back}
 use Rattle.endgame_solver.specs.SumGame.{balance}
 use Rattle.endgame_solver.proofs.HeldLaws.{small_balance}
 use Rattle.endgame_solver.proofs.AskedLaws.{answer_serves}
 use Rattle.endgame_solver.proofs.MarginLaws.{beside_units, games_bounded, halves_back, units_back}
 use Rattle.endgame_solver.proofs.asked.loses_after.Goals as goal
 
-pub loses-lost-requires-clause-bounds : goal.loses-lost-requires-clause-bounds
-loses-lost-requires-clause-bounds c = games_bounded c.args.store.now (set c.args.sum.now c.args.place c.args.after) (balance c.args.purses)
+pub loses_with-requires-clause-bounds : goal.loses_with-requires-clause-bounds
+loses_with-requires-clause-bounds c = games_bounded c.args.store.now (set c.args.sum.now c.args.place c.args.after) (balance c.args.purses)
     c.balance_of.result c.requires.games (small_balance c.args.purses c.requires.purses) c.balance_of.ensures
 
 pub returns-clause-answer : goal.returns-clause-answer
 returns-clause-answer c =
     let G = total (pick c.args.store.now (set c.args.sum.now c.args.place c.args.after)) in
-    subst (λ t. IsTrue c.loses-lost.result ↔ LosesGame c.args.first t) (beside_units G (balance c.args.purses) c.balance_of.result c.balance_of.ensures)
-    c.loses-lost.ensures.answer
-
-pub returns-clause-same : goal.returns-clause-same
-returns-clause-same c = ap (λ z. set z c.args.place (get_or c.args.sum.now c.args.place 0)) c.loses-lost.ensures.same
-    ∙ put_back c.args.sum.now c.args.place c.args.after
+    subst (λ t. IsTrue c.loses_with.result ↔ LosesGame c.args.first t) (beside_units G (balance c.args.purses) c.balance_of.result c.balance_of.ensures)
+    c.loses_with.ensures.answer
 
 pub returns-in-Some-clause-answer : goal.returns-in-Some-clause-answer
 returns-in-Some-clause-answer c =

@@ -1,9 +1,8 @@
 use mir.Syntax.{w64}
-use Rattle.std.proofs.Common.{◌∙◌, ◌^◌, ◌-ℤ◌, ◌*ℤ◌, pos, refl, ap, get_or, set}
+use Rattle.std.proofs.Common.{◌∙◌, ◌^◌, ◌-ℤ◌, ◌*ℤ◌, pos, refl, ap}
 use Rattle.std.proofs.lemmas.Bool.{both_ways}
 use Rattle.std.proofs.lemmas.Int.{to_z-of_z}
 use Rattle.whole_rules.specs.Purses.{paid_in}
-use Rattle.sum_outcome.proofs.ListLaws.{put_back}
 use Rattle.endgame_solver.specs.SumGame.{balance}
 use Rattle.endgame_solver.specs.inner.Line.{last_won}
 use Rattle.endgame_solver.proofs.HeldLaws.{some_edge}
@@ -37,11 +36,11 @@ pub last_balance-requires-clause-modest : goal.last_balance-requires-clause-mode
 last_balance-requires-clause-modest c = stone_modest c.requires.seen refl refl c.side-side.ensures c.in-Some.ensures.edges c.from.ensures
     (c.paid_in-purses.ensures ∙ ap (paid_in c.side-side.result c.from.result) c.purses.ensures)
 
-pub loses-lost-requires-clause-ids : goal.loses-lost-requires-clause-ids
-loses-lost-requires-clause-ids c = stone_known c.requires.seen refl refl c.side-side.ensures c.in-Some.ensures.edges c.value_seen.ensures
+pub loses_with-requires-clause-ids : goal.loses_with-requires-clause-ids
+loses_with-requires-clause-ids c = stone_known c.requires.seen refl refl c.side-side.ensures c.in-Some.ensures.edges c.value_seen.ensures
 
-pub loses-lost-requires-clause-bounds : goal.loses-lost-requires-clause-bounds
-loses-lost-requires-clause-bounds c =
+pub loses_with-requires-clause-bounds : goal.loses_with-requires-clause-bounds
+loses_with-requires-clause-bounds c =
     let paid = c.paid_in-purses.ensures ∙ ap (paid_in c.side-side.result c.from.result) c.purses.ensures in
     last_bounds c.requires.seen refl refl c.side-side.ensures c.in-Some.ensures.edges c.value_seen.ensures c.from.ensures paid c.other.ensures
     c.args.beyond c.requires.small (stone_modest c.requires.seen refl refl c.side-side.ensures c.in-Some.ensures.edges c.from.ensures paid)
@@ -52,10 +51,7 @@ returns-clause-keeps c =
     hot_keeps c.requires.seen refl refl c.side-side.ensures c.in-Some.ensures.edges c.value_seen.ensures c.from.ensures
     (c.paid_in-purses.ensures ∙ ap (paid_in c.side-side.result c.from.result) c.purses.ensures) c.other.ensures
     (c.last_balance.ensures ∙ ap (λ z. (balance c.paid_in-purses.result -ℤ last_won c.side-side.result z) *ℤ pos (2 ^ 59)) (to_z-of_z w64 c.args.beyond c.ranges.beyond))
-    (λ i. both_ways c.is_number-cold.result c.if-cold.false (c.is_number-cold.ensures.1 i)) c.loses-lost.ensures.answer
+    (λ i. both_ways c.is_number-cold.result c.if-cold.false (c.is_number-cold.ensures.1 i)) c.loses_with.ensures.answer
 
 pub returns-clause-legal : goal.returns-clause-legal
 returns-clause-legal c = λ _. stone_is_legal c.requires.seen refl refl c.side-side.ensures c.in-Some.ensures.edges c.value_seen.ensures
-
-pub returns-clause-same : goal.returns-clause-same
-returns-clause-same c = ap (λ z. set z c.in-Some.k (get_or c.args.sum.now c.in-Some.k 0)) c.loses-lost.ensures.same ∙ put_back c.args.sum.now c.in-Some.k c.value_seen.result
