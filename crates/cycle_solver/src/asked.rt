@@ -28,7 +28,7 @@ use whole_rules::Purses;
 
 /// The game that a stone takes out of the sum, the one that it puts in its place, the purses behind it, and how many halves of
 /// a point the threshold then is above the komi.
-#[derive(Clone, Copy, Debug)]
+#[derive(Clone, Copy)]
 pub(crate) struct Answered {
     pub before: GameId,
     pub after: GameId,

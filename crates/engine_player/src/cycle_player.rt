@@ -25,7 +25,6 @@ use local_graph::MOST_POSITIONS;
 use local_play::Steps;
 use sgf_go::Setup;
 use std::alloc::Global;
-use std::fmt;
 use std::marker::Model;
 use std::sync::ledger::Ledger;
 use whole_rules::{Move, MoveError, Whole};
@@ -55,12 +54,6 @@ impl Model for CyclePlayer {
 
     ghost invariant = { λ p. IsFitPlayer p.game p.black p.white p.scratch.items
         p.moves };
-}
-
-impl fmt::Debug for CyclePlayer {
-    fn fmt<W: fmt::Write>(&self, f: &mut fmt::Formatter<W>) -> fmt::Result {
-        f.debug_struct("CyclePlayer").finish()
-    }
 }
 
 /// Puts the least budgets of the side to move into the scratch, if it keeps some or wins.

@@ -6,7 +6,7 @@ ghost use Rattle.engine_player.specs.inner.Kept.{kept_of};
 use std::alloc::{AllocError, Global};
 
 /// What a colour keeps: a budget of captures that return for each region, or nothing.
-#[derive(Debug, Drop)]
+#[derive(Drop)]
 pub(crate) struct Kept {
     pub(crate) budgets: Vec<usize>,
     pub(crate) is_kept: bool,

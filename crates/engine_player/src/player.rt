@@ -15,14 +15,14 @@ use whole_rules::{Move, MoveError, Whole};
 pub const MOST_CAPTURES: u8 = 32;
 
 /// A game whose regions have no cycles, or may have them.
-#[derive(Debug, Drop)]
+#[derive(Drop)]
 pub(crate) enum Game {
     Plain(Solved),
     Cycles(CyclePlayer),
 }
 
 /// A game that the engine plays, for either colour. Contracts see its state, and where kos are admitted what each colour keeps.
-#[derive(Debug, Drop)]
+#[derive(Drop)]
 pub struct Player {
     game: Game,
 }
