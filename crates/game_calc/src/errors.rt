@@ -4,6 +4,7 @@ ghost use Rattle.std.specs.Prelude.{◌≡◌, alloc_error};
 ghost use Rattle.game_calc.specs.declared.errors.CalcError.TheVariants as calc;
 
 use std::alloc::{AllocError, AllocFailed};
+use std::fmt;
 use thiserror::Error;
 
 /// What is wrong in a line. A byte that fits no rule and a number that is none are told by their place, counted from 0;
@@ -17,7 +18,7 @@ pub enum CalcFault {
 }
 
 /// Why a line has no answer: it is no expression, a step of it or its answer is past the limits, or memory is wanting.
-#[derive(Clone, Copy, Debug, PartialEq, Eq, Error)]
+#[derive(Clone, Copy, PartialEq, Eq, Error)]
 pub enum CalcError {
     #[error("no expression")]
     Fault(CalcFault),
@@ -25,6 +26,12 @@ pub enum CalcError {
     Limit,
     #[error("out of memory")]
     Memory(AllocError),
+}
+
+impl fmt::Debug for CalcError {
+    fn fmt<W: fmt::Write>(&self, f: &mut fmt::Formatter<W>) -> fmt::Result {
+        fmt::Display::fmt(self, f)
+    }
 }
 
 impl From<AllocError> for CalcError {

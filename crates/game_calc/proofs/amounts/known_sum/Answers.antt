@@ -12,3 +12,15 @@ returns-in-Err-Parts-clause-amount c = λ E F f s. sum-refused c.args.store.now 
 
 pub returns-in-Err-Bounds-clause-amount : goal.returns-in-Err-Bounds-clause-amount
 returns-in-Err-Bounds-clause-amount c = λ E F f s. sum-refused c.args.store.now c.args.parts_limit E F c.args.a c.args.b f s c.add.new.store (subst (IsStepRefusal c.args.parts_limit (tree_at c.args.store.now c.args.a) (tree_at c.args.store.now c.args.b)) c.in-Err-Bounds.field-0-is c.in-Err-Bounds.ensures.refusal)
+
+pub returns-in-Ok-clause-kept : goal.returns-in-Ok-clause-kept
+returns-in-Ok-clause-kept c = c.add.ensures.kept
+
+pub returns-in-Err-Parts-clause-kept : goal.returns-in-Err-Parts-clause-kept
+returns-in-Err-Parts-clause-kept c = c.add.ensures.kept
+
+pub returns-in-Err-Bounds-clause-kept : goal.returns-in-Err-Bounds-clause-kept
+returns-in-Err-Bounds-clause-kept c = c.add.ensures.kept
+
+pub returns-in-Err-Memory-clause-kept : goal.returns-in-Err-Memory-clause-kept
+returns-in-Err-Memory-clause-kept c = c.add.ensures.kept

@@ -9,3 +9,9 @@ returns-in_ok-negate-in-Known-clause-amount c = λ limit E h.
 
 pub returns-in-TooLarge-clause-amount : goal.returns-in-TooLarge-clause-amount
 returns-in-TooLarge-clause-amount c = λ limit E h. opposite-large c.args.store.now c.args.store.now limit E (subst (IsAmount c.args.store.now limit E) c.in-TooLarge.is h)
+
+pub returns-in_ok-negate-in-Known-clause-kept : goal.returns-in_ok-negate-in-Known-clause-kept
+returns-in_ok-negate-in-Known-clause-kept c = c.negate.ensures.kept
+
+pub returns-in_err-negate-in-Known-clause-kept : goal.returns-in_err-negate-in-Known-clause-kept
+returns-in_err-negate-in-Known-clause-kept c = c.negate.ensures.kept

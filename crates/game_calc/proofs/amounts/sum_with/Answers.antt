@@ -1,3 +1,4 @@
+use Rattle.game_canon.proofs.ChangedIdLaws.{extends-on}
 use Rattle.std.proofs.Common.{subst, sym}
 use Rattle.std.specs.Prelude.{Option}
 use Rattle.std.proofs.lemmas.Result.{IfOk-weaker}
@@ -23,3 +24,15 @@ returns-in-Some-clause-amount c =
     (k e.0 (signed c.args.opening.sign F) (amount-kept c.args.store.now c.signed.new.store c.args.parts_limit e.0 c.in-Some.before c.signed.ensures.kept e.2) (c.in_ok-term.ensures.amount c.args.parts_limit F f))
     ))
     c.sum_of.ensures.amount
+
+pub returns-in-Some-clause-held : goal.returns-in-Some-clause-held
+returns-in-Some-clause-held c = c.sum_of.ensures.held
+
+pub returns-in-Some-clause-kept : goal.returns-in-Some-clause-kept
+returns-in-Some-clause-kept c = extends-on _ _ _ c.signed.ensures.kept c.sum_of.ensures.kept
+
+pub returns-in-None-clause-kept : goal.returns-in-None-clause-kept
+returns-in-None-clause-kept c = c.signed.ensures.kept
+
+pub returns-in_err-term-clause-kept : goal.returns-in_err-term-clause-kept
+returns-in_err-term-clause-kept c = c.signed.ensures.kept

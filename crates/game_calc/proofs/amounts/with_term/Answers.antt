@@ -13,3 +13,9 @@ returns-in-Sums-clause-amount c =
     subst (λ (pass : Pass). IfOk c.sum_with.result (λ after. (o : Option Expression) (F : Expression) → IsBefore pass c.args.store.now c.args.parts_limit o c.args.opening.before → IsTerm pass c.args.store.now c.args.parts_limit F c.args.term
     → IsTerm pass c.sum_with.new.store c.args.parts_limit (with_term o c.args.opening.sign F) after))
     (sym c.in-Sums.is) c.sum_with.ensures.amount
+
+pub returns-in-Sums-clause-held : goal.returns-in-Sums-clause-held
+returns-in-Sums-clause-held c = c.sum_with.ensures.held
+
+pub returns-in-Sums-clause-kept : goal.returns-in-Sums-clause-kept
+returns-in-Sums-clause-kept c = c.sum_with.ensures.kept

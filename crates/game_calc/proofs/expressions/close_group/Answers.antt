@@ -15,3 +15,9 @@ returns-clause-turn c = group-closed c.args.source.now.pass c.args.store.now c.a
 pub returns-in_default-clause-refusal : goal.returns-in_default-clause-refusal
 returns-in_default-clause-refusal c = stray-told c.args.source.now.parts_limit c.args.source.now.text.now c.args.at c.args.word c.requires.word
     (close-stray c.args.source.now.pass c.args.store.now c.args.source.now.parts_limit c.args.source.now.text.now c.args.at c.args.amount c.args.pending.now.opens.items c.args.pending.now.first (term-behind _ _ _ _ _ _ _ _ c.requires.reading) (sym c.requires.word.kind_is ∙ c.requires.close) (search rules))
+
+pub returns-clause-kept : goal.returns-clause-kept
+returns-clause-kept c = c.with_term.ensures.kept
+
+pub returns-in_err-amount-clause-kept : goal.returns-in_err-amount-clause-kept
+returns-in_err-amount-clause-kept c = c.with_term.ensures.kept

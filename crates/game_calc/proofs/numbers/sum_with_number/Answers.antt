@@ -20,3 +20,15 @@ pub returns-clause-within : goal.returns-clause-within
 returns-clause-within c =
     within-number c.add_number.new.store (tree_at c.args.store.now c.args.a) c.args.x c.in_ok-sum.sum c.args.parts_limit (c.len-count.ensures.canonical c.args.a c.requires) c.in_ok-sum.ensures.value
     (parts-few _ c.in_ok-count.count c.args.parts_limit c.in_ok-count.ensures (omega (arith, c.if-count-from.false, c.from.ensures))) c.in_ok-sum.ensures.bounds
+
+pub returns-clause-kept : goal.returns-clause-kept
+returns-clause-kept c = c.add_number.ensures.kept
+
+pub returns-in_err-sum-clause-kept : goal.returns-in_err-sum-clause-kept
+returns-in_err-sum-clause-kept c = c.add_number.ensures.kept
+
+pub returns-in_err-count-clause-kept : goal.returns-in_err-count-clause-kept
+returns-in_err-count-clause-kept c = c.add_number.ensures.kept
+
+pub returns-then-count-from-clause-kept : goal.returns-then-count-from-clause-kept
+returns-then-count-from-clause-kept c = c.add_number.ensures.kept

@@ -10,3 +10,9 @@ returns-clause-value c = number-sum c.number.new.self c.args.x c.args.y c.in-Som
 
 pub returns-clause-parts : goal.returns-clause-parts
 returns-clause-parts c = number-few c.number.new.self c.in-Some.sum c.in_ok-number.field-0 c.args.parts_limit c.in_ok-number.ensures.value
+
+pub returns-clause-kept : goal.returns-clause-kept
+returns-clause-kept c = c.number.ensures.kept
+
+pub returns-in_err-number-clause-kept : goal.returns-in_err-number-clause-kept
+returns-in_err-number-clause-kept c = c.number.ensures.kept

@@ -48,3 +48,24 @@ returns-in-Some-clause-value c =
 
 pub returns-in-Some-clause-parts : goal.returns-in-Some-clause-parts
 returns-in-Some-clause-parts c = (c.requires.right c.args.b c.args.a c.in-Some.sum (sym c.noted_sum.ensures ∙ c.in-Some.is)).few
+
+pub returns-clause-parts : goal.returns-clause-parts
+returns-clause-parts c = c.form_of.ensures.parts
+
+pub returns-clause-comparisons : goal.returns-clause-comparisons
+returns-clause-comparisons c = c.form_of.ensures.comparisons
+
+pub returns-clause-kept : goal.returns-clause-kept
+returns-clause-kept c = c.form_of.ensures.kept
+
+pub returns-in-Some-both_numbers-clause-parts : goal.returns-in-Some-both_numbers-clause-parts
+returns-in-Some-both_numbers-clause-parts c = c.number_sum.ensures.parts
+
+pub returns-in-Some-both_numbers-clause-kept : goal.returns-in-Some-both_numbers-clause-kept
+returns-in-Some-both_numbers-clause-kept c = c.number_sum.ensures.kept
+
+pub form_of-requires-clause-latest : goal.form_of-requires-clause-latest
+form_of-requires-clause-latest c = c.requires.latest
+
+pub form_of-requires-clause-comparisons : goal.form_of-requires-clause-comparisons
+form_of-requires-clause-comparisons c = c.requires.comparisons

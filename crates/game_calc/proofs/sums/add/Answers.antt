@@ -33,3 +33,21 @@ returns-in-Some-number_of-clause-refusal c =
     let H = tree_at c.args.store.now c.args.a in
     IfErr-weaker c.sum_with_number-in-Some-number_of.result (λ error. IsStepRefusal c.args.parts_limit G (number_tree c.in-Some-number_of.x) error) (λ error. IsStepRefusal c.args.parts_limit H G error)
     (λ error r. refusal-turned c.args.parts_limit G H error (subst (λ (t : Tree). IsStepRefusal c.args.parts_limit G t error) (sym c.in-Some-number_of.ensures) r)) c.sum_with_number-in-Some-number_of.ensures.refusal
+
+pub returns-in-Some-clause-kept : goal.returns-in-Some-clause-kept
+returns-in-Some-clause-kept c = c.sum_with_number.ensures.kept
+
+pub returns-in-Some-number_of-clause-kept : goal.returns-in-Some-number_of-clause-kept
+returns-in-Some-number_of-clause-kept c = c.sum_with_number-in-Some-number_of.ensures.kept
+
+pub returns-clause-value : goal.returns-clause-value
+returns-clause-value c = c.add_by_table.ensures.value
+
+pub returns-clause-within : goal.returns-clause-within
+returns-clause-within c = c.add_by_table.ensures.within
+
+pub returns-clause-refusal : goal.returns-clause-refusal
+returns-clause-refusal c = c.add_by_table.ensures.refusal
+
+pub returns-clause-kept : goal.returns-clause-kept
+returns-clause-kept c = c.add_by_table.ensures.kept

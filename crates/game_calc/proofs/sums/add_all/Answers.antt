@@ -2,7 +2,7 @@ use Rattle.std.proofs.Common.{ℕ, ◌<◌, ◌≡◌, length, get_or, ap₂, su
 use Rattle.std.proofs.lemmas.Result.{err_from_is_err_and}
 use Rattle.short_games.specs.Tree.{Tree, tree_at}
 use Rattle.short_games.specs.Sum.{◌+ᵍ◌}
-use Rattle.game_canon.proofs.ChangedIdLaws.{passed-on}
+use Rattle.game_canon.proofs.ChangedIdLaws.{passed-on, extends-on}
 use Rattle.game_calc.specs.inner.Steps.{IsPairRefusal}
 use Rattle.game_calc.specs.inner.Table.{noted}
 use Rattle.game_calc.proofs.TableSteps.{rows-inner, rows-step}
@@ -30,3 +30,15 @@ returns-in_err-latest-clause-refusal c =
     passed-on c.from_residual.result _ (λ error. (i j : ℕ) × (i < length c.args.first.now) × (j < length c.args.second.now) × IsPairRefusal (tree_at Ts (get_or c.args.first.now i 0) +ᵍ tree_at Ts (get_or c.args.second.now j 0)) c.args.parts_limit error)
     (err_from_is_err_and c.from_residual.result c.from_residual.ensures.1)
     (n, r.0, c.adding-test.true, r.1, subst (λ (t : Tree). IsPairRefusal t c.args.parts_limit c.in_err-latest.field-0.0) same r.2)
+
+pub returns-clause-kept : goal.returns-clause-kept
+returns-clause-kept c = c.adding.invariant.table.kept
+
+pub returns-clause-comparisons : goal.returns-clause-comparisons
+returns-clause-comparisons c = c.adding.invariant.comparisons
+
+pub returns-in_err-latest-clause-kept : goal.returns-in_err-latest-clause-kept
+returns-in_err-latest-clause-kept c = extends-on _ _ _ c.adding.invariant.table.kept c.add_row.ensures.kept
+
+pub returns-clause-right : goal.returns-clause-right
+returns-clause-right c = c.adding.invariant.table.right

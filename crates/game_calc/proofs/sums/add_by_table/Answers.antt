@@ -39,3 +39,9 @@ returns-clause-within c =
     all-within c.args.store.now c.add_all.new.store c.args.parts_limit (tree_at c.args.store.now c.args.a) (tree_at c.args.store.now c.args.b) (noted c.add_all.new.sums) c.deref.result.now c.deref-2.result.now c.add_all.ensures.kept c.len-new_count.ensures.forms
     (subst (AreReachable c.args.store.now (tree_at c.args.store.now c.args.a)) (sym c.deref.ensures) c.in_ok-first.ensures) (subst (AreReachable c.args.store.now (tree_at c.args.store.now c.args.b)) (sym c.deref-2.ensures) c.in_ok-second.ensures)
     c.in_ok-add_all.ensures.known c.in_ok-add_all.ensures.right
+
+pub returns-clause-kept : goal.returns-clause-kept
+returns-clause-kept c = c.add_all.ensures.kept
+
+pub returns-in_err-add_all-clause-kept : goal.returns-in_err-add_all-clause-kept
+returns-in_err-add_all-clause-kept c = c.add_all.ensures.kept

@@ -2,7 +2,7 @@ use Rattle.std.proofs.Common.{ℕ, ◌<◌, length, get_or}
 use Rattle.std.proofs.lemmas.Result.{err_from_is_err_and}
 use Rattle.short_games.specs.Sum.{◌+ᵍ◌}
 use Rattle.short_games.specs.Tree.{tree_at}
-use Rattle.game_canon.proofs.ChangedIdLaws.{passed-on}
+use Rattle.game_canon.proofs.ChangedIdLaws.{passed-on, extends-on}
 use Rattle.game_calc.specs.inner.Steps.{IsPairRefusal}
 use Rattle.game_calc.specs.inner.Table.{noted}
 use Rattle.game_calc.proofs.ReturnSteps.{small-kept}
@@ -27,3 +27,24 @@ adding-preserved c = record {
   table = row-step c.args.store.now c.adding.store c.args.parts_limit c.args.a (noted c.args.sums.now) (noted c.adding.sums) c.args.places.now c.adding.place-index c.adding.invariant.table c.requires.a c.adding-test.true
       c.pair_sum.new.store (noted c.note_sum.new.sums) c.in_ok-sum.sum (c.requires.places.ids c.adding.place-index c.adding-test.true) c.pair_sum.ensures.kept c.in_ok-sum.ensures.value c.in_ok-sum.ensures.parts c.in_ok-note_sum.ensures;
 }
+
+pub returns-clause-kept : goal.returns-clause-kept
+returns-clause-kept c = c.adding.invariant.table.kept
+
+pub returns-clause-right : goal.returns-clause-right
+returns-clause-right c = c.adding.invariant.table.right
+
+pub returns-clause-grows : goal.returns-clause-grows
+returns-clause-grows c = c.adding.invariant.table.grows
+
+pub returns-clause-comparisons : goal.returns-clause-comparisons
+returns-clause-comparisons c = c.adding.invariant.comparisons
+
+pub returns-clause-latest : goal.returns-clause-latest
+returns-clause-latest c = c.adding.invariant.small
+
+pub returns-in_err-sum-clause-kept : goal.returns-in_err-sum-clause-kept
+returns-in_err-sum-clause-kept c = extends-on _ _ _ c.adding.invariant.table.kept c.pair_sum.ensures.kept
+
+pub returns-in_err-note_sum-clause-kept : goal.returns-in_err-note_sum-clause-kept
+returns-in_err-note_sum-clause-kept c = extends-on _ _ _ c.adding.invariant.table.kept c.pair_sum.ensures.kept
