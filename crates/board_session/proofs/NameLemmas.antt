@@ -1,5 +1,6 @@
 -- The names of commands are texts.
-use Rattle.std.proofs.Common.{◌≡◌, ℕ, refl, sym, subst, List}
+use Rattle.std.specs.Prelude.{IfNone}
+use Rattle.std.proofs.Common.{◌≡◌, ℕ, refl, sym, subst, List, Option, Some, None}
 use lib.Utf8.{encode}
 use Rattle.std.specs.Str.{IsUtf8, is_utf8, chars}
 use Rattle.std.proofs.lemmas.Str.{IsUtf8-from_is_utf8}
@@ -59,3 +60,8 @@ known_text (Analyse c) = analysis_text c
 -- a word that is no text names no command
 pub name_is_text : (word : List ℕ) (c : Command) → ¬ IsUtf8 word → word ≡ command_word c → ⊥
 name_is_text word c no_text e = no_text (subst IsUtf8 (sym e) (known_text c))
+
+-- nothing is read
+pub at_none : {A : Type 0} (r : Option A) (P : Type 0) → r ≡ None → P → IfNone r P
+at_none None P e p = p
+at_none (Some x) P e p = cc

@@ -26,7 +26,7 @@ use std::sync::ledger::Ledger;
 use whole_rules::{Move, Whole};
 
 /// What the colour to move is told: a move, or that there is none, or why the position opens no game.
-#[derive(Debug, Drop)]
+#[derive(Drop)]
 pub(crate) enum Advice {
     Chosen(Move),
     Resigned,

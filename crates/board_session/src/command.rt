@@ -9,7 +9,7 @@ ghost use Rattle.board_session.specs.declared.command.Command.{Command};
 use std::str;
 
 /// The commands that ask for no analysis.
-#[derive(Clone, Copy, Debug, PartialEq, Eq)]
+#[derive(Clone, Copy)]
 pub(crate) enum BasicCommand {
     ProtocolVersion,
     Name,
@@ -40,7 +40,7 @@ pub(crate) enum BasicCommand {
 }
 
 /// The commands that ask for an analysis.
-#[derive(Clone, Copy, Debug, PartialEq, Eq)]
+#[derive(Clone, Copy)]
 pub(crate) enum AnalysisCommand {
     TopMovesBlack,
     TopMovesWhite,
@@ -55,7 +55,7 @@ pub(crate) enum AnalysisCommand {
 }
 
 /// The commands.
-#[derive(Clone, Copy, Debug, PartialEq, Eq)]
+#[derive(Clone, Copy)]
 pub(crate) enum Command {
     Basic(BasicCommand),
     Analyse(AnalysisCommand),

@@ -3,6 +3,7 @@
 ghost use Rattle.std.specs.Prelude.{◌≡◌, ◌≤◌, ◌<◌, ◌+◌, List, length, IfOk, OnErr};
 ghost use Rattle.desk_io.specs.declared.lines.TheConstants.{MOST_LINES};
 ghost use Rattle.go_grid.specs.Region.{Region};
+ghost use Rattle.gtp_words.specs.declared.loading.Loading.TheVariants.{Position};
 ghost use Rattle.region_cut.specs.Cut.{AreRegionsOfPlay};
 ghost use Rattle.endgame_solver.specs.Faults.{most_steps};
 ghost use Rattle.board_session.specs.Orders.Asked.{something};
@@ -24,13 +25,14 @@ use gtp_words::{Answer, Loading, Loads, MOST_LOADS, clean, load, split, take_id}
 use item_list::ItemList;
 use local_graph::MOST_POSITIONS;
 use local_play::Steps;
+use sgf_go::Setup;
 use std::alloc::{AllocError, Global};
 use std::marker::Model;
 use std::str;
 use std::sync::ledger::Ledger;
 
 /// A board session and its loads. Contracts see these and the limits.
-#[derive(Debug, Drop)]
+#[derive(Drop)]
 pub struct BoardEngine {
     limits: BoardLimits,
     session: BoardSession,
@@ -76,6 +78,31 @@ impl BoardEngine {
         &self.loads
     }
 
+    /// Takes up the position of a file, or leaves all as it was where memory is refused.
+    fn take_up(&mut self, id: &[u8], setup: Setup) -> Result<ItemList<u8>, AllocError>
+        requires few { self.old.loads.count < MOST_LOADS }
+        requires fit { CanTakeUp (Position setup) }
+        ensures noted { IfOk result (λ reply. IsLoadNoted
+            id.now (Position setup) self.old reply self.new) }
+        ensures same { OnErr result (self.new ≡ self.old) }
+    {
+        match accept(
+            self.session.allocator(),
+            id,
+            colour_word(setup.side).as_bytes(),
+        ) {
+            Ok(reply) => {
+                self.session.take_up(setup);
+                self.loads.note_made();
+                Ok(reply)
+            }
+            Err(cause) => {
+                drop(setup);
+                Err(cause)
+            }
+        }
+    }
+
     /// Notes what a load comes to.
     fn note(&mut self, id: &[u8], loading: Loading) -> Result<ItemList<u8>, AllocError>
         requires few { self.old.loads.count < MOST_LOADS }
@@ -84,19 +111,15 @@ impl BoardEngine {
         ensures same { OnErr result (self.new ≡ self.old) }
     {
         let alloc = self.session.allocator();
-        let refused = refuse(alloc, id, Refusal::CannotLoadFile)?;
         match loading {
-            Loading::Position(setup) => {
-                let reply = accept(alloc, id, colour_word(setup.side).as_bytes())?;
-                self.session.take_up(setup);
-                self.loads.note_made();
-                Ok(reply)
-            }
+            Loading::Position(setup) => self.take_up(id, setup),
             Loading::Nothing => {
+                let refused = refuse(alloc, id, Refusal::CannotLoadFile)?;
                 self.loads.note_made();
                 Ok(refused)
             }
             Loading::Failed => {
+                let refused = refuse(alloc, id, Refusal::CannotLoadFile)?;
                 self.loads.note_failed()?;
                 Ok(refused)
             }

@@ -7,7 +7,7 @@ ghost use Rattle.std.specs.Option.{option_map};
 ghost use Rattle.board_session.specs.States.{present};
 ghost use Rattle.board_session.specs.inner.Doing.{AreRead, IsDone, IsPut, IsSetOut};
 
-use crate::refusal::{Refusal, accept, refuse};
+use crate::refusal::{Refusal, refuse};
 use crate::session::BoardSession;
 use crate::texts::vertices_text;
 use crate::wanted::find_point;
@@ -183,16 +183,10 @@ impl BoardSession {
             text.now why points.now id.now self.old reply self.new) }
         ensures same { OnErr result (self.new ≡ self.old) }
     {
-        let alloc = self.allocator();
-        let done = accept(alloc, id, text)?;
-        let refused = refuse(alloc, id, why)?;
         let board = put_stones(&self.present().board, points)?;
         match board {
-            Some(board) => {
-                self.begin(board, points.len());
-                Ok(done)
-            }
-            None => Ok(refused),
+            Some(board) => self.begin_with(id, text, board, points.len()),
+            None => refuse(self.allocator(), id, why),
         }
     }
 

@@ -6,7 +6,7 @@ ghost use Rattle.board_session.specs.Session.{game_limits};
 use endgame_solver::Limits;
 
 /// What bounds the games that are opened, and how files are read. There is no tax.
-#[derive(Clone, Copy, Debug, PartialEq, Eq)]
+#[derive(Clone, Copy)]
 pub struct BoardLimits {
     /// The most positions of a region.
     pub positions: u32,

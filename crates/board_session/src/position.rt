@@ -13,7 +13,7 @@ use std::alloc::{AllocError, Global};
 use std::marker::Model;
 
 /// A number for each colour.
-#[derive(Clone, Copy, Debug, PartialEq, Eq)]
+#[derive(Clone, Copy)]
 pub struct Tally {
     black: u64,
     white: u64,
@@ -30,7 +30,7 @@ impl Model for Tally {
 }
 
 /// A move of a board session.
-#[derive(Clone, Copy, Debug, PartialEq, Eq)]
+#[derive(Clone, Copy)]
 pub enum BoardMove {
     Stone(Point),
     Pass,
@@ -39,7 +39,7 @@ pub enum BoardMove {
 }
 
 /// A board, and the stones that each colour has taken and the passes that it has made.
-#[derive(Debug, Drop)]
+#[derive(Drop)]
 pub struct Position {
     pub board: Board,
     pub prisoners: Tally,
@@ -47,7 +47,7 @@ pub struct Position {
 }
 
 /// A move that was made, the komi in half-points before it, and the position after it.
-#[derive(Debug, Drop)]
+#[derive(Drop)]
 pub struct MadeMove {
     pub after: Position,
     pub komi_before: i64,

@@ -3,7 +3,7 @@
 use go_grid::Colour;
 
 /// What a command asks for.
-#[derive(Clone, Copy, Debug, PartialEq, Eq)]
+#[derive(Clone, Copy)]
 pub(crate) enum Question {
     Size,
     Komi,

@@ -8,7 +8,7 @@ use item_list::ItemList;
 use std::alloc::{AllocError, Global};
 
 /// Why an order is refused.
-#[derive(Clone, Copy, Debug, PartialEq, Eq)]
+#[derive(Clone, Copy)]
 pub(crate) enum Refusal {
     UnknownCommand,
     SyntaxError,

@@ -26,7 +26,7 @@ use std::alloc::{AllocError, Global};
 use std::marker::Model;
 
 /// The komi in half-points, the number of handicap stones, the position before the first move, and the moves so far.
-#[derive(Debug, Drop)]
+#[derive(Drop)]
 pub(crate) struct BoardSession {
     setup: Position,
     moves: Vec<MadeMove>,
@@ -156,17 +156,38 @@ impl BoardSession {
         self.handicap = stones;
     }
 
+    /// Begins with a board, so many handicap stones and a reply, or leaves all as it was where memory is refused.
+    pub(crate) fn begin_with(
+        &mut self,
+        id: &[u8],
+        text: &[u8],
+        board: Board,
+        stones: usize,
+    ) -> Result<ItemList<u8>, AllocError>
+        ensures begun { IfOk result (λ reply. (reply ≡ reply_text id.now (done text.now))
+            × (self.new ≡ with_stones self.old stones board)) }
+        ensures same { OnErr result (self.new ≡ self.old) }
+    {
+        match accept(self.allocator(), id, text) {
+            Ok(reply) => {
+                self.begin(board, stones);
+                Ok(reply)
+            }
+            Err(cause) => {
+                drop(board);
+                Err(cause)
+            }
+        }
+    }
+
     /// An empty board of a size with the present komi.
     fn clear(&mut self, id: &[u8], size: Size) -> Result<ItemList<u8>, AllocError>
         ensures cleared { IfOk result (λ reply. (reply ≡ reply_text id.now (done []))
             × (self.new ≡ fresh size.columns size.rows self.old.komi_halves)) }
         ensures same { OnErr result (self.new ≡ self.old) }
     {
-        let alloc = self.allocator();
-        let board = Board::empty(alloc, size)?;
-        let reply = accept(alloc, id, b"")?;
-        self.begin(board, 0);
-        Ok(reply)
+        let board = Board::empty(self.allocator(), size)?;
+        self.begin_with(id, b"", board, 0)
     }
 
     /// An empty board of so many columns and rows with the present komi.
@@ -254,6 +275,25 @@ impl BoardSession {
         Ok(self.moves.push(made)?)
     }
 
+    /// Adds a move with its reply, or leaves all as it was where memory is refused.
+    fn add_played(&mut self, id: &[u8], made: MadeMove) -> Result<ItemList<u8>, AllocError>
+        requires { IsFitMove self.old made }
+        ensures played { IfOk result (λ reply. (reply ≡ reply_text id.now (done []))
+            × (self.new ≡ record self.old { moves = self.old.moves ++ made ∷ [] })) }
+        ensures same { OnErr result (self.new ≡ self.old) }
+    {
+        match accept(self.setup.board.allocator(), id, b"") {
+            Ok(reply) => {
+                self.add(made)?;
+                Ok(reply)
+            }
+            Err(cause) => {
+                drop(made);
+                Err(cause)
+            }
+        }
+    }
+
     /// A move of the colour.
     fn play(
         &mut self,
@@ -266,16 +306,10 @@ impl BoardSession {
             (play colour wanted) id.now self.old reply self.new) }
         ensures same { OnErr result (self.new ≡ self.old) }
     {
-        let alloc = self.setup.board.allocator();
-        let played = accept(alloc, id, b"")?;
-        let illegal = refuse(alloc, id, Refusal::IllegalMove)?;
         let made = self.make(colour, wanted)?;
         match made {
-            Some(made) => {
-                self.add(made)?;
-                Ok(played)
-            }
-            None => Ok(illegal),
+            Some(made) => self.add_played(id, made),
+            None => refuse(self.setup.board.allocator(), id, Refusal::IllegalMove),
         }
     }
 

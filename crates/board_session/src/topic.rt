@@ -8,7 +8,7 @@ ghost use Rattle.board_session.specs.declared.topic.Status.{Status};
 use go_grid::Colour;
 
 /// What the game that a position opens tells.
-#[derive(Clone, Copy, Debug, PartialEq, Eq)]
+#[derive(Clone, Copy)]
 pub(crate) enum Topic {
     /// The ten best stones.
     Best,
@@ -20,14 +20,14 @@ pub(crate) enum Topic {
 }
 
 /// What a game in which kos can arise tells.
-#[derive(Clone, Copy, Debug, PartialEq, Eq)]
+#[derive(Clone, Copy)]
 pub(crate) enum CycleTopic {
     Margin,
     Moves,
 }
 
 /// What stones of a finished game are.
-#[derive(Clone, Copy, Debug, PartialEq, Eq)]
+#[derive(Clone, Copy)]
 pub(crate) enum Status {
     Alive,
     Dead,
@@ -35,7 +35,7 @@ pub(crate) enum Status {
 }
 
 /// What an analysis of the present position tells: of the game with the colour to move, or which stones have a status.
-#[derive(Clone, Copy, Debug, PartialEq, Eq)]
+#[derive(Clone, Copy)]
 pub(crate) enum Analysis {
     Game(Topic, Colour),
     Stones(Status),

@@ -9,7 +9,7 @@ use go_grid::{Point, Size};
 use gtp_words::{Vertex, is_word, point_at, read_vertex};
 
 /// What a move's word says.
-#[derive(Clone, Copy, Debug, PartialEq, Eq)]
+#[derive(Clone, Copy)]
 pub(crate) enum Wanted {
     At(Vertex),
     Pass,
