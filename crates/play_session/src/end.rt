@@ -1,7 +1,7 @@
 //! How a session ends.
 
 /// How a session ends, as the engine sees it.
-#[derive(Clone, Copy, PartialEq, Eq, Debug)]
+#[derive(Clone, Copy)]
 pub enum SessionEnd {
     /// The opponent has no move left.
     Won,

@@ -1,7 +1,7 @@
 //! What stops a session from outside.
 
 /// Which side of the outside failed.
-#[derive(Clone, Copy, PartialEq, Eq, Debug)]
+#[derive(Clone, Copy)]
 pub(crate) enum Fault {
     Read,
     Write,

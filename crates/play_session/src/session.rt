@@ -161,7 +161,7 @@ pub(crate) fn take_request<S: Source>(
 
 /// A game between the engine and whoever writes the lines. Contracts see the game, the engine's colour, and the bytes
 /// that were read and not yet used.
-#[derive(Debug, Drop)]
+#[derive(Drop)]
 pub struct Session {
     player: Player,
     engine: Colour,
