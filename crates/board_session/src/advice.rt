@@ -105,7 +105,11 @@ fn open<L: Ledger>(
         → steps.new ≤ steps.old + most_steps limits.now regions }
 {
     match Solved::begin(alloc, setup, limits, steps) {
-        Ok(mut game) => tell(alloc, &mut game, passes),
+        Ok(mut game) => {
+            let advice = tell(alloc, &mut game, passes);
+            drop(game);
+            advice
+        }
         Err(fault) => {
             let size = setup.board.size();
             let words = fault_words(alloc, Naming::Gtp, size, limits, fault)?;

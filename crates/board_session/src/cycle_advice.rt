@@ -104,7 +104,11 @@ pub(crate) fn open_with_cycles<L: Ledger>(
         → steps.new ≤ steps.old + most_steps limits.now regions }
 {
     match CyclePlayer::begin(alloc, setup, limits, MOST_CAPTURES, steps) {
-        Ok(mut game) => tell(alloc, &mut game, passes),
+        Ok(mut game) => {
+            let advice = tell(alloc, &mut game, passes);
+            drop(game);
+            advice
+        }
         Err(fault) => {
             let size = setup.board.size();
             let words = words_of(alloc, size, limits, fault)?;

@@ -17,9 +17,9 @@ fault_words-requires g c =
 pub returns-in-Ok-clause-advised : goal.returns-in-Ok-clause-advised
 returns-in-Ok-clause-advised g c =
     let limits = c.args.limits.now in let setup = c.args.setup.now in let game = c.in-Ok.game in let (opening, are_regions, sound) = c.in-Ok.ensures.begun in
-    if_ok (λ advice. IsTold c.args.passes game.state (advice_of advice)) (λ advice. Advises limits setup c.args.passes (advice_of advice)) c.tell.result
+    if_ok (λ advice. IsTold c.args.passes game.state (advice_of advice)) (λ advice. Advises limits setup c.args.passes (advice_of advice)) c.tell-advice.result
     (λ advice told. told_advises limits setup c.args.passes game.state (advice_of advice) c.requires.fit.settled
-    (record { regions = game.regions; are_regions = are_regions; sound = sound; opening = opening }) told) c.tell.ensures
+    (record { regions = game.regions; are_regions = are_regions; sound = sound; opening = opening }) told) c.tell-advice.ensures
 
 pub returns-in_ok-words-in-Err-clause-advised : goal.returns-in_ok-words-in-Err-clause-advised
 returns-in_ok-words-in-Err-clause-advised g c =

@@ -7,8 +7,8 @@ use Rattle.board_session.proofs.CycleAdviceLemmas.{names_point, told_with_cycles
 use Rattle.board_session.proofs.HandicapLemmas.{if_ok}
 use Rattle.board_session.proofs.cycle_advice.open_with_cycles.Goals as goal
 
-pub tell-requires : goal.tell-requires
-tell-requires g c = let (opening, are, steady, black, white, moves) = c.in-Ok.ensures.begun in record { nothing = (black, white) }
+pub tell-advice-requires : goal.tell-advice-requires
+tell-advice-requires g c = let (opening, are, steady, black, white, moves) = c.in-Ok.ensures.begun in record { nothing = (black, white) }
 
 pub words_of-requires : goal.words_of-requires
 words_of-requires g c =
@@ -17,8 +17,8 @@ words_of-requires g c =
 pub returns-in-Ok-clause-advised : goal.returns-in-Ok-clause-advised
 returns-in-Ok-clause-advised g c =
     let limits = c.args.limits.now in let setup = c.args.setup.now in let game = c.in-Ok.game in
-    if_ok (λ advice. IsToldWithCycles c.args.passes game (advice_of advice)) (λ advice. AdvisesWithCycles limits setup c.args.passes (advice_of advice)) c.tell.result
-    (λ advice told. told_with_cycles limits setup c.args.passes game (advice_of advice) c.requires.fit.settled c.in-Ok.ensures.begun told) c.tell.ensures
+    if_ok (λ advice. IsToldWithCycles c.args.passes game (advice_of advice)) (λ advice. AdvisesWithCycles limits setup c.args.passes (advice_of advice)) c.tell-advice.result
+    (λ advice told. told_with_cycles limits setup c.args.passes game (advice_of advice) c.requires.fit.settled c.in-Ok.ensures.begun told) c.tell-advice.ensures
 
 pub returns-in_ok-words-in-Err-clause-advised : goal.returns-in_ok-words-in-Err-clause-advised
 returns-in_ok-words-in-Err-clause-advised g c =

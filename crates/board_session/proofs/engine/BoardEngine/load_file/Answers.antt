@@ -1,5 +1,9 @@
-use Rattle.std.proofs.Common.{subst}
+use Rattle.std.proofs.Common.{refl, rules, subst}
+use Rattle.std.proofs.lemmas.Result.{IfOk-weaker}
 use Rattle.desk_io.specs.Files.{told_file}
+use Rattle.gtp_words.specs.Loads.Fate.{no_load}
+use Rattle.board_session.specs.Session.{refused}
+use Rattle.board_session.specs.declared.refusal.Refusal.TheVariants.{CannotLoadFile}
 use Rattle.gtp_words.specs.Files.{IsLoaded, load_settings}
 use Rattle.board_session.proofs.AnswerLemmas.{loaded_fits, loads_obeyed}
 use Rattle.board_session.proofs.engine.BoardEngine.load_file.Goals as goal
@@ -15,3 +19,7 @@ returns-clause-loaded g c =
     loads_obeyed files before now c.args.id.now c.args.file.now c.args.after c.args.self.now c.note.new.self c.in_ok-loading.loading c.note.result c.in-Ok.ensures.cases.1
     (subst (λ name. IsLoaded (told_file files name) (load_settings c.args.self.now.limits.territory c.args.after) before now c.in_ok-loading.loading) c.in-Ok.ensures.cases.0
     (subst (λ e. IsLoaded (told_file files c.in-Ok.name.now) (load_settings e.limits.territory c.args.after) before now c.in_ok-loading.loading) c.self.view_is c.in_ok-loading.ensures.loaded)) c.note.ensures.noted
+
+pub returns-in-Err-clause-loaded : goal.returns-in-Err-clause-loaded
+returns-in-Err-clause-loaded g c =
+    IfOk-weaker c.refuse.result _ _ (λ reply said. (no_load, refused CannotLoadFile, (search rules, (refl, refl)), said, refl, refl)) c.refuse.ensures
