@@ -17,14 +17,14 @@ ghost use Rattle.cycle_solver.specs.Thresholds.{AreThresholdsFrom};
 ghost use Rattle.cycle_solver.specs.Winner.{TellsCaptures, TellsWinner, TellsWinnerAfter};
 
 use crate::asked::Answered;
-use crate::asking::{ENOUGH, Present, captures_of, start_of, winner_of};
+use crate::asking::{ENOUGH, Present, captures_of, winner_of};
 use crate::changes::change_of;
 use crate::faults::CycleError;
-use crate::shape_games::region_games;
 use crate::shared_games::RegionGames;
+use crate::solved_regions::solve_openings;
 use crate::thresholds::{Thresholds, thresholds_after, thresholds_of};
 use crate::winning_moves::{first_winning_move, winner_after};
-use endgame_solver::{Limits, first_known, first_large, opening_of};
+use endgame_solver::{Limits, opening_of};
 use game_store::{GameId, Store};
 use go_grid::{Colour, Point, Region};
 use local_graph::MOST_POSITIONS;
@@ -38,7 +38,7 @@ use whole_rules::{Move, Whole};
 
 /// What is known of a region at the opening: its lowest point, how many points it has, how many positions are reachable, and
 /// the values of the opening for Black and for White, with a budget of captures that return that is enough.
-#[derive(Clone, Copy, Debug, PartialEq, Eq)]
+#[derive(Clone, Copy)]
 pub struct CycleReport {
     pub lowest: Point,
     pub points: u16,
@@ -109,24 +109,14 @@ impl CycleGame {
             → steps.new ≤ steps.old + most_steps limits.now regions }
     {
         let opening = opening_of(alloc, setup, limits.tax)?;
-        if let Some((lowest, points)) = first_large(&opening.regions) {
-            return Err(CycleError::Points(lowest, points));
-        }
-        let mut known = first_known(alloc)?;
-        let games = region_games(
-            alloc,
-            &opening.regions,
-            limits,
-            most,
-            &mut known.store,
-            steps,
-        )?;
-        let start = start_of(alloc, &games)?;
+        let found = solve_openings(alloc, &opening.regions, limits, most, steps)?;
+        let known = found.known;
+        let start = found.start;
         Ok(CycleGame {
             whole: opening.whole,
             store: known.store,
             regions: opening.regions,
-            games,
+            games: found.games,
             places: start.places,
             low: start.low,
             high: start.high,

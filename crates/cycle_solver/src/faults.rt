@@ -5,12 +5,13 @@ ghost use Rattle.cycle_solver.specs.declared.faults.CycleError.TheVariants.{Memo
 
 use go_grid::Point;
 use std::alloc::{AllocError, AllocFailed};
+use std::fmt;
 
 /// Why a position isn't solved. A region is named by its lowest point.
-#[derive(Clone, Copy, Debug, PartialEq, Eq, thiserror::Error)]
+#[derive(Clone, Copy, PartialEq, Eq, thiserror::Error)]
 pub enum CycleError {
     /// A region has more than 32 points. Their number.
-    #[error("a region of {1} points")]
+    #[error(fmt = large_region)]
     Points(Point, u16),
     /// More positions of a region are reachable than the limit.
     #[error("too many positions in a region")]
@@ -23,6 +24,20 @@ pub enum CycleError {
     Captures(Point),
     #[error("out of memory")]
     Memory(AllocError),
+}
+
+impl fmt::Debug for CycleError {
+    fn fmt<W: fmt::Write>(&self, f: &mut fmt::Formatter<W>) -> fmt::Result {
+        fmt::Display::fmt(self, f)
+    }
+}
+
+fn large_region<W: fmt::Write>(
+    _lowest: &Point,
+    points: &u16,
+    f: &mut fmt::Formatter<W>,
+) -> fmt::Result {
+    write!(f, "a region of {points} points")
 }
 
 impl From<AllocError> for CycleError {

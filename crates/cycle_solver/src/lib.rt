@@ -18,6 +18,7 @@ mod region_game;
 mod shape_games;
 mod shapes;
 mod shared_games;
+mod solved_regions;
 mod thresholds;
 mod views;
 mod winning_moves;

@@ -22,7 +22,7 @@ use sum_outcome::Search;
 
 /// Both players' thresholds, in half-points of komi: Black wins up to the first, White above the second, and between them
 /// nobody does.
-#[derive(Clone, Copy, Debug, PartialEq, Eq)]
+#[derive(Clone, Copy)]
 pub struct Thresholds {
     pub black: i64,
     pub white: i64,
