@@ -1,5 +1,6 @@
 pub mod AskedLaws
 pub mod BeginLaws
+pub mod BothLaws
 pub mod CalmLaws
 pub mod ChangeLaws
 pub mod GameLaws

@@ -1,6 +1,7 @@
 //! A region's graph, and the values of its positions by budget.
 
-ghost use Rattle.std.specs.Prelude.{◌≡◌, ℕ, ◌+◌, ◌^◌, ◌<◌, ◌≤◌, IfErr, IfOk, MatchOption, Ok, Err, length, min};
+ghost use Rattle.std.specs.Prelude.{◌≡◌, ℕ, ◌+◌, ◌^◌, ◌<◌, ◌≤◌, ◌⊎◌, IfErr, IfOk, MatchOption, Ok, Err, Some, None, ◌≢◌, length, min};
+ghost use Rattle.cycle_solver.specs.declared.faults.CycleError.TheVariants.{Captures};
 ghost use Rattle.game_store.specs.Meaning.{Extends};
 ghost use Rattle.local_graph.specs.LocalGraph.{MoreThan};
 ghost use Rattle.local_value.specs.BudgetValues.{IsReturnGraphOf};
@@ -12,7 +13,7 @@ use crate::faults::CycleError;
 use endgame_solver::Limits;
 use game_canon::FormError;
 use game_store::Store;
-use go_grid::{Colour, Region};
+use go_grid::{Colour, Point, Region};
 use local_graph::{GraphError, MOST_POSITIONS, ReturnGraph, build_with_returns};
 use local_play::Steps;
 use local_value::{BudgetError, SteadyValues, value_steady};
@@ -90,6 +91,81 @@ fn values_of(
     }
 }
 
+/// The values of a region's graph for each colour, White's where there is a cycle.
+#[derive(Drop)]
+pub(crate) struct BothValues {
+    black: SteadyValues,
+    white: Option<SteadyValues>,
+}
+
+/// The values where there is no cycle, or that the region isn't steady.
+fn alone(black: Option<SteadyValues>, lowest: Point) -> Result<BothValues, CycleError>
+    ensures values { IfOk result (λ both. (black ≡ Some both.black) × (both.white ≡ None)) }
+    ensures refusal { IfErr result (λ e. (e ≡ Captures lowest) × (black ≡ None)) }
+{
+    match black {
+        None => Err(CycleError::Captures(lowest)),
+        Some(black) => Ok(BothValues { black, white: None }),
+    }
+}
+
+/// The values where there is a cycle, or that the region isn't steady for one of the colours.
+fn together(
+    black: Option<SteadyValues>,
+    white: Option<SteadyValues>,
+    lowest: Point,
+) -> Result<BothValues, CycleError>
+    ensures values { IfOk result (λ both. (black ≡ Some both.black) × (both.white ≡ white)
+        × (white ≢ None)) }
+    ensures refusal { IfErr result (λ e. (e ≡ Captures lowest)
+        × ((black ≡ None) ⊎ (white ≡ None))) }
+{
+    match black {
+        None => Err(CycleError::Captures(lowest)),
+        Some(black) => match white {
+            None => {
+                drop(black);
+                Err(CycleError::Captures(lowest))
+            }
+            Some(white) => Ok(BothValues {
+                black,
+                white: Some(white),
+            }),
+        },
+    }
+}
+
+/// The values of a region with its graph.
+fn values_of_both(
+    alloc: Global,
+    region: &Region,
+    graph: &ReturnGraph,
+    limits: &Limits,
+    most: u8,
+    store: &mut Store,
+) -> Result<BothValues, CycleError>
+    requires points { length region.now.points ≤ 32 }
+    requires graph { IsGraphWithin limits.now.positions region.now graph.now }
+    requires limit { limits.now.positions ≤ MOST_POSITIONS }
+    ensures solved { IfOk result (λ both. IsSolvedBy limits.now most region.now store.new
+        (record { graph = graph.now; black = both.black; white = both.white })) }
+    ensures refusal { IfErr result (λ e. IsRefusalOf limits.now most region.now e) }
+    ensures kept { Extends store.old store.new }
+{
+    let lowest = region.points[0];
+    let black = values_of(alloc, region, graph, Colour::Black, limits, most, store)?;
+    if !graph.has_cycle() {
+        return alone(black, lowest);
+    }
+    match values_of(alloc, region, graph, Colour::White, limits, most, store) {
+        Ok(white) => together(black, white, lowest),
+        Err(fault) => {
+            drop(black);
+            Err(fault)
+        }
+    }
+}
+
 /// The graph and the values of a region.
 pub(crate) fn region_game<L: Ledger>(
     alloc: Global,
@@ -108,28 +184,15 @@ pub(crate) fn region_game<L: Ledger>(
         (3 ^ length region.now.points) }
 {
     let graph = graph_of(alloc, region, limits, steps)?;
-    let lowest = region.points[0];
-    let black = values_of(alloc, region, &graph, Colour::Black, limits, most, store)?;
-    if !graph.has_cycle() {
-        return match black {
-            None => Err(CycleError::Captures(lowest)),
-            Some(black) => Ok(RegionGame {
-                graph,
-                black,
-                white: None,
-            }),
-        };
-    }
-    let white = values_of(alloc, region, &graph, Colour::White, limits, most, store)?;
-    match black {
-        None => Err(CycleError::Captures(lowest)),
-        Some(black) => match white {
-            None => Err(CycleError::Captures(lowest)),
-            Some(white) => Ok(RegionGame {
-                graph,
-                black,
-                white: Some(white),
-            }),
-        },
+    match values_of_both(alloc, region, &graph, limits, most, store) {
+        Ok(both) => Ok(RegionGame {
+            graph,
+            black: both.black,
+            white: both.white,
+        }),
+        Err(fault) => {
+            drop(graph);
+            Err(fault)
+        }
     }
 }

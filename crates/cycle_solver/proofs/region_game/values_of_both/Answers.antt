@@ -1,0 +1,33 @@
+use Rattle.std.proofs.Common.{◌∙◌, ap, arith, get_or}
+use Rattle.std.proofs.lemmas.List.{get_or_default}
+use Rattle.go_grid.specs.declared.grid.Colour.TheVariants.{Black}
+use Rattle.cycle_solver.proofs.BothLaws.{alone_refused, alone_solved, together_refused, together_solved}
+use Rattle.cycle_solver.proofs.GameLaws.{maybe_later}
+use Rattle.cycle_solver.proofs.region_game.values_of_both.Goals as goal
+
+pub returns-then-not-has_cycle-clause-solved : goal.returns-then-not-has_cycle-clause-solved
+returns-then-not-has_cycle-clause-solved c =
+    alone_solved c.args.limits.now c.args.most (omega (arith, c.ranges.most.fits)) c.args.region.now c.args.graph.now c.requires.points c.requires.graph c.requires.limit
+    c.values_of.new.store (c.has_cycle.ensures.0 c.if-not-has_cycle.true) c.in_ok-black.black c.in_ok-black.ensures.values c.alone.result c.alone.ensures.values
+
+pub returns-then-not-has_cycle-clause-refusal : goal.returns-then-not-has_cycle-clause-refusal
+returns-then-not-has_cycle-clause-refusal c =
+    alone_refused c.args.limits.now c.args.most (omega (arith, c.ranges.most.fits)) c.args.region.now c.args.graph.now c.requires.points c.requires.graph c.requires.limit
+    c.values_of.new.store (c.has_cycle.ensures.0 c.if-not-has_cycle.true) c.in_ok-black.black c.in_ok-black.ensures.values c.alone.result c.index-lowest.result.now c.alone.ensures.refusal
+
+pub returns-in-Ok-clause-solved : goal.returns-in-Ok-clause-solved
+returns-in-Ok-clause-solved c =
+    together_solved c.args.limits.now c.args.most (omega (arith, c.ranges.most.fits)) c.args.region.now c.args.graph.now c.requires.points c.requires.graph c.requires.limit
+    c.values_of-2.new.store c.in_ok-black.black c.in-Ok.white
+    (maybe_later c.args.limits.now c.args.most c.args.region.now c.args.graph.now Black c.values_of.new.store c.values_of-2.new.store c.in_ok-black.black (c.in-Ok.ensures {u = tt}).kept c.in_ok-black.ensures.values)
+    (c.in-Ok.ensures {u = tt}).values c.together.result c.together.ensures.values
+
+pub returns-in-Ok-clause-refusal : goal.returns-in-Ok-clause-refusal
+returns-in-Ok-clause-refusal c =
+    together_refused c.args.limits.now c.args.most (omega (arith, c.ranges.most.fits)) c.args.region.now c.args.graph.now c.requires.points c.requires.graph c.requires.limit
+    c.values_of-2.new.store c.in_ok-black.black c.in-Ok.white
+    (maybe_later c.args.limits.now c.args.most c.args.region.now c.args.graph.now Black c.values_of.new.store c.values_of-2.new.store c.in_ok-black.black (c.in-Ok.ensures {u = tt}).kept c.in_ok-black.ensures.values)
+    (c.in-Ok.ensures {u = tt}).values c.together.result c.index-lowest.result.now
+    (c.index-lowest.ensures ∙ get_or_default c.region.inside.points.items 0 c.index-lowest.result.now 0 c.region.invariant.some
+    ∙ ap (λ z. get_or z.points 0 0) c.region.view_is)
+    c.together.ensures.refusal
