@@ -73,7 +73,7 @@ fn ranks(
     requires { length components.now ≡ length positions.now }
     ensures { IfOk result (λ ranks. AreRanks colour positions.now components.now ranks.items) }
 {
-    let mut ranks = Vec::new(alloc);
+    let mut ranks = Vec::with_capacity(alloc, positions.len())?;
     for (place, position) in positions.iter().enumerate() {
         ranks.push(rank_of(*position, components[place], place, colour))?;
     }
@@ -84,7 +84,7 @@ fn ranks(
 fn places_of(alloc: Global, ranks: &[Rank]) -> Result<Vec<usize>, AllocError>
     ensures { IfOk result (λ places. places.items ≡ map (λ r. r.place) ranks.now) }
 {
-    let mut places = Vec::new(alloc);
+    let mut places = Vec::with_capacity(alloc, ranks.len())?;
     for rank in ranks {
         places.push(rank.place)?;
     }

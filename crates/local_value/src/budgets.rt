@@ -152,7 +152,9 @@ fn append_layer(ids: &mut Vec<GameId>, layers: &[Values], back: usize) -> Result
     if back > layers.len() {
         return Ok(());
     }
-    ids.extend_from_slice(layers[layers.len() - back].as_slice())?;
+    let layer = layers[layers.len() - back].as_slice();
+    ids.reserve_exact(layer.len())?;
+    ids.extend_from_slice(layer)?;
     Ok(())
 }
 
