@@ -1,5 +1,5 @@
 -- What calls have answered of the games that are compared, said of the store, and the other way round.
-use Rattle.std.proofs.Common.{ℕ, ◌+◌, ◌<◌, ◌≡◌, ◌↔◌, List, [], ◌∷◌, length, get_or, take, drop, arith, sym, subst, Bool, Some, None}
+use Rattle.std.proofs.Common.{ℕ, ◌+◌, ◌<◌, ◌≡◌, ◌↔◌, List, [], ◌∷◌, length, take, drop, arith, sym, subst, Bool, Some, None}
 use Rattle.std.specs.Prelude.{Option, IsTrue, IfSome, IfNone, Result, Ok, Err, IfErr}
 use Rattle.std.proofs.lemmas.List.{length-append, length-take, length-drop, get_or-take, get_or-drop}
 use Rattle.short_games.specs.Tree.{Tree, tree_at}

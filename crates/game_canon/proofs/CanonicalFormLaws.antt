@@ -1,5 +1,5 @@
 -- A reduced form in the order of its ids is the canonical tree.
-use Rattle.std.proofs.Common.{ℕ, ◌+◌, ◌<◌, ◌≤◌, ◌≡◌, List, [], length, arith, refl, sym, ap, ◌∙◌, inl, inr, subst, ℤ, pos}
+use Rattle.std.proofs.Common.{ℕ, ◌+◌, ◌<◌, ◌≤◌, ◌≡◌, List, length, arith, refl, sym, ◌∙◌, inl, inr, subst, ℤ, pos}
 use Rattle.short_games.specs.Tree.{Tree, Has, tree_at, AreDistinct}
 use Rattle.short_games.specs.Order.{◌≤ᵍ◌, ◌≡ᵍ◌}
 use Rattle.short_games.specs.Number.{IsNumberTree, num, IsNumber, number_tree}
@@ -20,9 +20,7 @@ use Rattle.game_canon.specs.inner.Sides.{IsReducedForm, IsStart, StartsWith, Are
 use Rattle.game_canon.specs.declared.games.Unstored.{Unstored}
 use Rattle.game_canon.specs.declared.games.Games.{Games}
 use Rattle.game_canon.specs.inner.Games.{with_unstored, beside, IsUnstored, IsBeside, IsKnown}
-use Rattle.std.specs.Map.{lookup}
-use Rattle.indexmap.specs.IndexMap.{IndexMap}
-use Rattle.game_canon.specs.Comparisons.{same_pair, AreRight}
+use Rattle.game_canon.specs.Comparisons.{AreRight}
 use Rattle.game_canon.specs.inner.Comparisons.{recalled}
 use Rattle.dyadic_num.specs.Units.{IsInBounds}
 use Rattle.short_games.specs.Parts.{HasMoreParts, IsOption, IsNumberOf}
@@ -156,8 +154,8 @@ pub right-beside : (Ts : List Tree) (o : Option Unstored) (known : ℕ → ℕ �
 right-beside Ts o known r = right-grown Ts (with_unstored Ts o) known (trees-extend Ts o) r
 
 -- nothing is remembered
-pub right-empty : {S : Type 0} (Ts : List Tree) (memo : IndexMap (ℕ × ℕ) Bool S) → memo.entries ≡ [] → AreRight Ts (recalled memo)
-right-empty Ts memo e a b answer k = absurd (none-some answer (sym (ap (λ es. lookup (same_pair (a, b)) es) e) ∙ k))
+pub right-empty : (Ts : List Tree) (known : ℕ → ℕ → Option Bool) → ((a b : ℕ) → known a b ≡ None) → AreRight Ts known
+right-empty Ts known e a b answer k = absurd (none-some answer (sym (e a b) ∙ k))
   where
     none-some : (answer : Bool) → None ≡ Some answer → ⊥
     none-some answer k = cc

@@ -21,3 +21,4 @@ pub mod SumQuestionLaws
 pub mod SumCancellingLaws
 pub mod WaitingLaws
 pub mod AnswerLaws
+mod TableLaws

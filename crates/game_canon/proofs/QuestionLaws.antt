@@ -11,7 +11,7 @@ use Rattle.game_canon.proofs.OpenPairLaws.{undecided, undecided-falls, measure-a
 use Rattle.game_canon.proofs.WaitingLaws.{AreWaiting, waiting-ask, waiting-answer, waiting-last, other-key, right-more, open-no_more, open-fewer}
 
 -- pairs that the test takes for the same are the same
-pair-same : (p q : ℕ × ℕ) → same_pair p q ≡ true → p ≡ q
+pub pair-same : (p q : ℕ × ℕ) → same_pair p q ≡ true → p ≡ q
 pair-same p q t = let s = and_parts (nat_eq p.0 q.0) (nat_eq p.1 q.1) t in λ i. (eqb-true p.0 q.0 s.0 i, eqb-true p.1 q.1 s.1 i)
 
 pair-itself : (p : ℕ × ℕ) → same_pair p p ≡ true

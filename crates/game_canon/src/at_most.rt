@@ -7,7 +7,7 @@ ghost use Rattle.short_games.specs.Tree.{tree_at};
 ghost use Rattle.game_canon.specs.Comparisons.{SaysAtMost, AreRight};
 ghost use Rattle.game_canon.specs.inner.Comparisons.{recalled, IsOpen, counter, NoneCounters, IsStep};
 
-use crate::comparisons::{Comparisons, recall, remember};
+use crate::comparisons::{Comparisons, recall, recall_near, remember};
 use crate::games::{Games, ceiling, floor, is_number, left_options, right_options};
 use game_store::GameId;
 use std::alloc::{AllocError, Global};
@@ -79,6 +79,12 @@ fn known(memo: &Comparisons, games: &Games<'_>, a: GameId, b: GameId) -> Option<
     ensures some { IfSome result (λ answer. SaysAtMost (trees games.now) a b answer) }
     ensures none { IfNone result (IsOpen (trees games.now) (recalled memo.now) a b) }
 {
+    if let Some(answer) = recall_near(memo, a, b) {
+        return Some(answer);
+    }
+    if let Some(answer) = recall_near(games.earlier, a, b) {
+        return Some(answer);
+    }
     if let Some(answer) = settled(games, a, b) {
         return Some(answer);
     }

@@ -75,7 +75,7 @@ fn reduced_form(
     ensures comparisons { AreFormComparisonsRight store.new comparisons.new }
     ensures kept { Extends store.old store.new }
 {
-    comparisons.limit();
+    comparisons.limit(alloc);
     let known = &mut comparisons.known;
     let lists = reduced(alloc, store, known, left, right, floor, ceiling)?;
     let _count = store.len();

@@ -4,16 +4,12 @@ ghost use Rattle.std.specs.Prelude.{◌≡◌, List, []};
 ghost use Rattle.short_games.specs.Tree.{Tree};
 ghost use Rattle.game_canon.specs.FormComparisons.{AreFormComparisonsRight};
 
-use crate::comparisons::Comparisons;
-use indexmap::IndexMap;
+use crate::comparisons::{Comparisons, limit, nothing_known};
 use std::alloc::Global;
 use std::marker::Model;
 
-/// How many comparisons are remembered at most. Then all are forgotten.
-const MOST: usize = 1 << 18;
-
-/// Comparisons of forms of a store. Contracts see them as the pairs of ids, each with whether the first game is at most the
-/// second.
+/// Comparisons of forms of a store. Contracts see them as a table and a list of pairs of ids, each with whether the first
+/// game is at most the second.
 #[derive(Drop)]
 pub struct FormComparisons {
     pub(crate) known: Comparisons,
@@ -24,27 +20,25 @@ impl Model for FormComparisons {
 
     ghost Value = { ComparedForms };
 
-    ghost view = { λ s. s.known.entries };
+    ghost view = { λ s. (s.known.near.items, s.known.far.entries) };
 }
 
 impl FormComparisons {
     /// Nothing is remembered yet.
     pub fn new(alloc: Global) -> FormComparisons
-        ensures { result ≡ [] }
+        ensures empty { result ≡ ([], []) }
+        ensures right { (Ts : List Tree) → AreFormComparisonsRight Ts result }
     {
         FormComparisons {
-            known: IndexMap::new(alloc),
+            known: nothing_known(alloc),
         }
     }
 
-    /// Forgets all where there are too many.
-    pub(crate) fn limit(&mut self)
+    /// Forgets some where there are too many.
+    pub(crate) fn limit(&mut self, alloc: Global)
         ensures { (Ts : List Tree) → AreFormComparisonsRight Ts self.old
             → AreFormComparisonsRight Ts self.new }
     {
-        if self.known.len() < MOST {
-            return;
-        }
-        self.known.clear();
+        limit(alloc, &mut self.known);
     }
 }

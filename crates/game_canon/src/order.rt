@@ -65,7 +65,7 @@ fn order_among(alloc: Global, games: &Games<'_>, a: GameId, b: GameId) -> Result
         (tree_at (trees games.now) b)) }
 {
     let mut memo = nothing_known(alloc);
-    order_in(alloc, &mut memo.known, games, a, b)
+    order_in(alloc, &mut memo, games, a, b)
 }
 
 /// The order of two games (Conway): the first is at most the second where no Left option of the first is at least the
@@ -76,6 +76,6 @@ pub fn compare(alloc: Global, store: &Store, a: GameId, b: GameId) -> Result<Ord
     ensures { IfOk result (λ order. IsOrder order (tree_at store.now a) (tree_at store.now b)) }
 {
     let none = nothing_known(alloc);
-    let games = games_of(store, &none.known);
+    let games = games_of(store, &none);
     order_among(alloc, &games, a, b)
 }

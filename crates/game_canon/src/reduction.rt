@@ -110,7 +110,7 @@ fn best_lists(
     ensures distinct { AreDistinct store.now }
 {
     let none = nothing_known(alloc);
-    let stored = games_of(store, &none.known);
+    let stored = games_of(store, &none);
     best_of_both(alloc, memo, &stored, left, right)
 }
 
@@ -140,5 +140,5 @@ pub(crate) fn reduced(
     let standing = Standing { floor, ceiling };
     let games = games_beside(store, memo, &lists.left, &lists.right, &standing);
     let mut beside = nothing_known(alloc);
-    bypass_all(alloc, &mut beside.known, &games, &lists.left, &lists.right)
+    bypass_all(alloc, &mut beside, &games, &lists.left, &lists.right)
 }

@@ -1,9 +1,8 @@
 -- What is remembered, the ids after the edges of a place as the store grows, and the form of those ids.
 use Rattle.std.proofs.Common.{ℕ, ◌+◌, ◌^◌, ◌≡◌, ◌<◌, ◌↔◌, arith, inl, inr, sym, ap, ap₂, get_or, subst, ◌∙◌, List, [], length, Result, ℤ, ◌+ℤ◌, ◌≤◌, to_z, of_z, w32, ◌*◌, refl, pos, neg_ℤ, ◌*ℤ◌, ◌∷◌, ◌++◌, take, Contains, unsigned_abs, IfOk, IfErr}
-use Rattle.std.specs.Map.{lookup}
 use Rattle.game_store.proofs.EntryLaws.{pick-same, has-pick, pick-has, push_one}
 use Rattle.std.proofs.lemmas.Int.{to_z-of_z, fits_signed_from_abs, ints}
-use Rattle.game_canon.specs.Comparisons.{same_pair}
+use Rattle.game_canon.specs.FormComparisons.{answer_of}
 use Rattle.game_canon.proofs.CanonicalFormLaws.{right-grown}
 use Rattle.local_value.proofs.OptionNumberLemmas.{same_ids}
 use Rattle.short_games.specs.Tree.{Tree, node, tree_at, none, Has}
@@ -90,7 +89,7 @@ module _ {Ts Us : List Tree} (x : Extends Ts Us) where
   pub forms-grown : (limit : ℕ) (forms : Forms) → AreFormsRight Ts limit forms → AreFormsRight Us limit forms
   forms-grown limit forms right = record {
     known = known-grown limit forms.table right.known;
-    comparisons = right-grown Ts Us (λ a b. lookup (same_pair (a, b)) forms.comparisons) x right.comparisons;
+    comparisons = right-grown Ts Us (answer_of forms.comparisons) x right.comparisons;
   }
 
 -- one sum more is remembered

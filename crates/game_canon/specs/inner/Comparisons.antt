@@ -1,19 +1,28 @@
 -- What comparing games, pair by pair, has found so far.
-use Rattle.std.specs.Prelude.{ℕ, ◌+◌, ◌-◌, ◌≡◌, ◌<◌, List, length, Bool, nat_lt, Option, Some, None, cond}
+use Rattle.std.specs.Prelude.{ℕ, ◌+◌, ◌-◌, ◌≡◌, ◌<◌, List, length, Bool, nat_lt, Option, Some, None, IfSome, cond}
 use Rattle.std.specs.List.{slice_index_or}
-use Rattle.indexmap.specs.IndexMap.{IndexMap, get}
 use Rattle.short_games.specs.Tree.{Tree, tree_at}
 use Rattle.short_games.specs.Number.{IsNumberTree}
 use Rattle.short_games.specs.Order.{◌≤ᵍ◌}
 use Rattle.game_store.specs.Forms.{IsOptions}
+use Rattle.game_canon.specs.declared.comparisons.Comparisons.{Comparisons}
 use Rattle.game_canon.specs.declared.at_most.Step.{Step}
 use Rattle.game_canon.specs.declared.at_most.Step.TheVariants.{Answer, Ask}
 use Rattle.game_canon.specs.declared.at_most.Question.{Question}
 use Rattle.game_canon.specs.Comparisons.{same_pair, SaysAtMost}
+use Rattle.game_canon.specs.FormComparisons.{answer_of}
 
 -- what is remembered of each pair of ids
-abbrev pub recalled : {S : Type 0} → IndexMap (ℕ × ℕ) Bool S → ℕ → ℕ → Option Bool
-recalled memo a b = get same_pair memo (a, b)
+abbrev pub recalled : Comparisons → ℕ → ℕ → Option Bool
+recalled memo = answer_of (memo.near.items, memo.far.entries)
+
+-- an answer that is found for a pair is the one that is remembered
+abbrev pub Finds : (ℕ → ℕ → Option Bool) → ℕ → ℕ → Option Bool → Type 0
+Finds known a b found = IfSome found (λ answer. known a b ≡ Some answer)
+
+-- each answer that is still remembered was so before
+abbrev pub Forgets : (ℕ → ℕ → Option Bool) → (ℕ → ℕ → Option Bool) → Type 0
+Forgets before after = (a b : ℕ) (answer : Bool) → after a b ≡ Some answer → before a b ≡ Some answer
 
 -- what is remembered of each pair of ids after one more answer
 abbrev pub with_answer : (ℕ → ℕ → Option Bool) → ℕ → ℕ → Bool → ℕ → ℕ → Option Bool

@@ -1,5 +1,7 @@
+use Rattle.std.proofs.Common.{sym, subst}
 use Rattle.std.proofs.lemmas.Result.{IfOk-weaker}
 use Rattle.game_store.specs.Meaning.{listed}
+use Rattle.game_canon.specs.FormComparisons.{AreFormComparisonsRight}
 use Rattle.game_canon.proofs.AnswerLaws.{cause-made}
 use Rattle.game_canon.proofs.CanonicalFormLaws.{ready, made-id, made-not, form-near, right-grown}
 use Rattle.game_canon.proofs.canonical_forms.reduced_form.Goals as goal
@@ -42,3 +44,7 @@ returns-clause-comparisons c = right-grown c.args.store.now c.entered.new.store 
 
 pub returns-clause-kept : goal.returns-clause-kept
 returns-clause-kept c = c.entered.ensures.kept
+
+pub reduced-requires-clause-memo : goal.reduced-requires-clause-memo
+reduced-requires-clause-memo c = subst (AreFormComparisonsRight c.args.store.now) (sym c.comparisons.view_is)
+    (c.limit.ensures c.args.store.now c.requires.comparisons)

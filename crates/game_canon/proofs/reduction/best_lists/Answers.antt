@@ -8,7 +8,7 @@ use Rattle.game_canon.proofs.CanonicalFormLaws.{right-empty}
 use Rattle.game_canon.proofs.reduction.best_lists.Goals as goal
 
 pub games_of-stored-requires : goal.games_of-stored-requires
-games_of-stored-requires c = right-empty c.args.store.now c.nothing_known-none.result.known c.nothing_known-none.ensures
+games_of-stored-requires c = right-empty c.args.store.now (recalled c.nothing_known-none.result) c.nothing_known-none.ensures.unknown
 
 pub best_of_both-requires-clause-left : goal.best_of_both-requires-clause-left
 best_of_both-requires-clause-left c = subst (λ Us. AreIds Us c.args.left.now) (sym c.games_of-stored.ensures.store) c.requires.left

@@ -11,9 +11,9 @@ bypass_all-requires-clause-known c =
     let s = c.in_ok-lists.ensures.starts in
     known-beside c.args.store.now c.games_beside-games.result f.0 _ c.in_ok-lists.lists.left.items c.in_ok-lists.lists.right.items
     c.games_beside-games.ensures.store f.1 (f.2 ∙ c.deref.ensures) (f.3 ∙ c.deref-2.ensures) s.same s.among
-    (recalled c.nothing_known-beside.result.known)
-    c.args.floor c.args.ceiling c.best_lists.ensures.distinct (right-empty c.args.store.now c.nothing_known-beside.result.known
-    c.nothing_known-beside.ensures)
+    (recalled c.nothing_known-beside.result)
+    c.args.floor c.args.ceiling c.best_lists.ensures.distinct (right-empty c.args.store.now (recalled c.nothing_known-beside.result)
+    c.nothing_known-beside.ensures.unknown)
     (subst (λ m. AreRight c.args.store.now (recalled m)) (sym c.games_beside-games.ensures.earlier) c.best_lists.ensures.memo)
     c.requires.no_number s.start c.requires.floor c.requires.ceiling (ap (λ s. s.floor) f.4) (ap (λ s. s.ceiling) f.4)
 
