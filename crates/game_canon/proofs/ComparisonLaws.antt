@@ -1,16 +1,14 @@
 -- How the order of two ids follows from floors and ceilings, and from the comparisons on which it rests.
-use Rattle.std.proofs.Common.{ℕ, ◌+◌, ◌-◌, ◌<◌, ◌≡◌, ◌↔◌, List, length, get_or, arith, sym, ◌∙◌, inl, inr, ap, subst, ℤ, ◌+ℤ◌, ◌≤ℤ◌, ◌<ℤ◌, cond}
-use Rattle.std.proofs.lemmas.Int.{ints}
+use Rattle.std.proofs.Common.{ℕ, ◌+◌, ◌-◌, ◌<◌, ◌≡◌, ◌↔◌, List, length, get_or, arith, sym, ◌∙◌, inl, inr, ap, subst, ℤ, ◌≤ℤ◌, ◌<ℤ◌, cond}
+use Rattle.std.proofs.lemmas.Int.{ints, by_lt_z}
 use Rattle.std.proofs.lemmas.Bool.{cases_lt, lt-ltb, le-ltb}
 use Rattle.short_games.specs.Tree.{Tree, left, right, Has, tree_at, AreDistinct}
-use Rattle.short_games.specs.Number.{num, number_tree}
+use Rattle.short_games.specs.Number.{num, IsNumberTree}
 use Rattle.short_games.specs.Order.{◌≤ᵍ◌}
-use Rattle.short_games.specs.Threshold.{IsCell, IsFloor, IsCeiling}
-use Rattle.short_games.proofs.OrderLaws.{le-out, le-in, le-trans}
-use Rattle.short_games.proofs.NumberLaws.{num-double}
+use Rattle.short_games.specs.Threshold.{IsFloor, IsCeiling}
+use Rattle.short_games.proofs.OrderLaws.{le-out, le-in, le-trans, le-refl}
 use Rattle.short_games.proofs.TextOrderLaws.{sorted-has, has-sorted}
-use Rattle.short_games.proofs.ThresholdLaws.{number-floor, number-ceiling, half-cell}
-use Rattle.short_games.proofs.StopLaws.{one-floor, one-ceiling}
+use Rattle.short_games.proofs.ThresholdLaws.{cell, half-cell}
 use Rattle.game_store.specs.Meaning.{pick}
 use Rattle.game_store.specs.Forms.{IsOptions}
 use Rattle.game_store.proofs.EntryLaws.{has-pick, pick-has}
@@ -19,22 +17,6 @@ use Rattle.game_canon.specs.declared.games.Unstored.{Unstored}
 use Rattle.game_canon.specs.inner.Games.{with_unstored}
 use Rattle.game_canon.proofs.GameLaws.{lefts-same, rights-same}
 use Rattle.game_canon.specs.inner.Comparisons.{counter, IsCountered, NoneCounters}
-
-number-cell : (e : ℕ) (z : ℤ) → IsCell e (num e z) (z +ℤ z)
-number-cell e z = subst (λ t. IsCell e t (z +ℤ z)) (num-double e z) (half-cell e (z +ℤ z))
-
--- a number is at most the games with no lesser floor, and at least those with no greater ceiling
-pub first_number : (A B : Tree) (x f g : ℤ) → A ≡ number_tree x → IsFloor 60 A f → IsFloor 60 B g → (f ≤ℤ g) ↔ (A ≤ᵍ B)
-first_number A B x f g i p q =
-    let e : f ≡ x +ℤ x = one-floor 60 A f (x +ℤ x) p (subst (λ t. IsFloor 60 t (x +ℤ x)) (sym i) (number-floor 60 x)) in
-    let by : (num 60 x ≤ᵍ B) ↔ ((x +ℤ x) ≤ℤ g) = q 60 x (x +ℤ x) (number-cell 60 x) in
-    (λ l. subst (λ t. t ≤ᵍ B) (sym i) (by.1 (subst (λ k. k ≤ℤ g) e l)), λ y. subst (λ k. k ≤ℤ g) (sym e) (by.0 (subst (λ t. t ≤ᵍ B) i y)))
-
-pub second_number : (A B : Tree) (y f g : ℤ) → B ≡ number_tree y → IsCeiling 60 A f → IsCeiling 60 B g → (f ≤ℤ g) ↔ (A ≤ᵍ B)
-second_number A B y f g i p q =
-    let e : g ≡ y +ℤ y = one-ceiling 60 B g (y +ℤ y) q (subst (λ t. IsCeiling 60 t (y +ℤ y)) (sym i) (number-ceiling 60 y)) in
-    let by : (A ≤ᵍ num 60 y) ↔ (f ≤ℤ (y +ℤ y)) = p 60 y (y +ℤ y) (number-cell 60 y) in
-    (λ l. subst (λ t. A ≤ᵍ t) (sym i) (by.1 (subst (λ k. f ≤ℤ k) e l)), λ z. subst (λ k. f ≤ℤ k) (sym e) (by.0 (subst (λ t. A ≤ᵍ t) i z)))
 
 -- a number between the two, and a number at most the first alone, or at least the second alone
 pub number_between : (A B : Tree) (f g : ℤ) → IsCeiling 60 A f → IsFloor 60 B g → f ≤ℤ g → A ≤ᵍ B
@@ -45,6 +27,22 @@ number_under A B f g p q n y = (let l : f ≤ℤ g = (q 61 f f (half-cell 60 f))
 
 pub number_over : (A B : Tree) (f g : ℤ) → IsCeiling 60 A f → IsCeiling 60 B g → g <ℤ f → A ≤ᵍ B → ⊥
 number_over A B f g p q n y = (let l : f ≤ℤ g = (p 61 g g (half-cell 60 g)).0 (le-trans A B (num 61 g) y ((q 61 g g (half-cell 60 g)).1 (omega (arith, ints)))) in omega (arith, ints, n, l))
+
+-- a number's ceiling is no greater than its floor
+pub level : (G : Tree) (f c : ℤ) → IsNumberTree G → IsFloor 60 G f → IsCeiling 60 G c → c ≤ℤ f
+level G f c n p q =
+    let h = cell 60 n.0 n.1 in
+    let under = (p n.0 n.1 h.0 h.1).0 (subst (λ t. num n.0 n.1 ≤ᵍ t) (sym n.2) (le-refl (num n.0 n.1))) in
+    let over = (q n.0 n.1 h.0 h.1).0 (subst (λ t. t ≤ᵍ num n.0 n.1) (sym n.2) (le-refl (num n.0 n.1))) in
+    omega (arith, ints, under, over)
+
+-- where the first of two is a number, its ceiling is at most the other's floor, unless its floor is above that
+pub first_level : (A : Tree) (low high other_low : ℤ) → IsNumberTree A → IsFloor 60 A low → IsCeiling 60 A high → (other_low <ℤ low → ⊥) → high ≤ℤ other_low
+first_level A low high other_low n p q above = let l = level A low high n p q in by_lt_z other_low high (λ o. absurd (above (omega (arith, ints, l, o)))) (λ o. o)
+
+-- where the second is, the first's ceiling is at most its floor, unless that ceiling is above its own
+pub second_level : (B : Tree) (high other_low other_high : ℤ) → IsNumberTree B → IsFloor 60 B other_low → IsCeiling 60 B other_high → (other_high <ℤ high → ⊥) → high ≤ℤ other_low
+second_level B high other_low other_high n p q above = let l = level B other_low other_high n p q in by_lt_z other_low high (λ o. absurd (above (omega (arith, ints, l, o)))) (λ o. o)
 
 pub through : {A B C : Type 0} → A ↔ B → B ↔ C → A ↔ C
 through f g = (λ a. g.0 (f.0 a), λ c. f.1 (g.1 c))

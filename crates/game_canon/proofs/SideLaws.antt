@@ -1,15 +1,21 @@
 -- Laws that hold of both sides, and of lists of ids.
-use Rattle.std.proofs.Common.{ℕ, zero, suc, ◌+◌, ◌-◌, ◌<◌, ◌≡◌, ◌⊎◌, List, [], ◌∷◌, ◌++◌, length, get_or, arith, refl, sym, ◌∙◌, inl, inr, ap, subst, take, drop, append_assoc}
+use Rattle.std.proofs.Common.{ℕ, zero, suc, ◌+◌, ◌-◌, ◌<◌, ◌≤◌, ◌≡◌, Some, ◌⊎◌, List, [], ◌∷◌, ◌++◌, length, get_or, arith, refl, sym, ◌∙◌, inl, inr, ap, subst, take, drop, append_assoc}
 use Rattle.std.proofs.lemmas.List.{append-nil, take_more, take-append-drop, length-append, length-take-le, length-drop}
 use Rattle.short_games.specs.Tree.{Tree, Trees, more, Has, ◌then◌, size, sizes, tree_at}
-use Rattle.short_games.proofs.OrderLaws.{le-refl, le-trans, none-or_some, le-or_not}
+use Rattle.short_games.proofs.OrderLaws.{le-refl, le-trans, le-out, none-or_some, le-or_not}
+use Rattle.short_games.proofs.TextOrderLaws.{has-sorted}
 use Rattle.short_games.proofs.SumLaws.{then-has, has-then_left, has-then_right}
-use Rattle.game_store.specs.Meaning.{pick, AreIds}
+use Rattle.game_store.specs.Meaning.{pick, form, AreIds}
+use Rattle.game_store.proofs.EntryLaws.{pick-has}
+use Rattle.std.specs.Prelude.{Option}
+use Rattle.std.proofs.lemmas.Bool.{cases_lt}
+use Rattle.game_canon.specs.declared.games.Unstored.{Unstored}
+use Rattle.game_canon.specs.inner.Games.{with_unstored}
 use Rattle.game_store.specs.Forms.{IsOptions}
 use Rattle.game_canon.specs.declared.side.Side.{Side}
 use Rattle.game_canon.specs.declared.side.Side.TheVariants.{Left, Right}
 use Rattle.game_canon.specs.inner.Sides.{near, far, Covers, near_list, far_list, AreBest, AreFree, IsRefilled, IsWithout}
-use Rattle.game_canon.proofs.GameLaws.{has-left, left-has, has-right, right-has}
+use Rattle.game_canon.proofs.GameLaws.{has-left, left-has, has-right, right-has, of-beside}
 use Rattle.game_canon.proofs.IdLaws.{sizes-order, in-order, out-order, ordered-ids}
 use Rattle.game_canon.specs.inner.Ids.{IsInOrder}
 use Rattle.short_games.specs.Order.{◌≤ᵍ◌}
@@ -198,3 +204,19 @@ best-ordered s Ts is us vs b o = record {
   free = λ A B a c k. b.free A B (out-order Ts us vs o A a) (out-order Ts us vs o B c) k;
   smaller = omega (arith, b.smaller, sizes-order Ts us vs o);
 }
+
+-- a form covers no option of the other side's
+pub not-covered : (Ts : List Tree) (o : Option Unstored) (u : Unstored) (s : Side) (is : List ℕ) → o ≡ Some u → is ≡ far_list s u.left.now u.right.now
+    → (j : ℕ) → j < length is → Covers s (tree_at Ts (get_or is j 0)) (tree_at (with_unstored Ts o) (length Ts)) → ⊥
+not-covered Ts o u Left is e i j l =
+    let X = tree_at Ts (get_or is j 0) in
+    of-beside Ts o u (length Ts) (λ t. X ≤ᵍ t → ⊥) e refl (λ y. (le-out X (form Ts u.left.now u.right.now) y).from_right X
+    (has-sorted (pick Ts u.right.now) X (subst (λ ks. Has (pick Ts ks) X) i (pick-has Ts is j l))) (le-refl X))
+not-covered Ts o u Right is e i j l =
+    let X = tree_at Ts (get_or is j 0) in
+    of-beside Ts o u (length Ts) (λ t. t ≤ᵍ X → ⊥) e refl (λ y. (le-out (form Ts u.left.now u.right.now) X y).from_left X
+    (has-sorted (pick Ts u.left.now) X (subst (λ ks. Has (pick Ts ks) X) i (pick-has Ts is j l))) (le-refl X))
+
+-- what holds from a place on holds from the one before on, where it holds there
+pub above_more : (P : ℕ → Type 0) (n m : ℕ) → 0 < n → ((j : ℕ) → n ≤ j → j < m → P j) → P (n - 1) → (j : ℕ) → n - 1 ≤ j → j < m → P j
+above_more P n m some f p j l k = elim (cases_lt j n) [ inl b ↦ subst P (omega (arith, some, l, b)) p | inr a ↦ f j a k ]

@@ -1,10 +1,10 @@
 -- How the order of sums of two games follows from floors and ceilings.
-use Rattle.std.proofs.Common.{List, inl, inr, arith, sym, subst, ℤ, ◌+ℤ◌, ◌≤ℤ◌}
+use Rattle.std.proofs.Common.{List, inl, inr, arith, subst, ℤ, ◌+ℤ◌, ◌≤ℤ◌}
 use Rattle.std.proofs.lemmas.Int.{ints, by_lt_z}
 use Rattle.short_games.specs.Tree.{Tree, tree_at}
 use Rattle.short_games.specs.Order.{◌≤ᵍ◌}
 use Rattle.short_games.specs.Sum.{◌+ᵍ◌}
-use Rattle.short_games.specs.Number.{num, IsNumberTree}
+use Rattle.short_games.specs.Number.{num}
 use Rattle.short_games.specs.Threshold.{IsFloor, IsCeiling}
 use Rattle.game_canon.specs.declared.sums.SumPair.{SumPair}
 use Rattle.game_canon.specs.SumComparisons.{IsSumWithin}
@@ -12,7 +12,8 @@ use Rattle.game_canon.specs.inner.SumComparisons.{AreSameSums, AreFloors, AreCei
 use Rattle.short_games.proofs.OrderLaws.{le-refl, le-trans}
 use Rattle.short_games.proofs.SumLaws.{plus-le_both, plus-comm}
 use Rattle.short_games.proofs.NumberLaws.{num-le, num-lt, num-plus_le, num-le_plus}
-use Rattle.short_games.proofs.ThresholdLaws.{cell, half-cell}
+use Rattle.short_games.proofs.ThresholdLaws.{half-cell}
+use Rattle.game_canon.proofs.ComparisonLaws.{level}
 
 over-floor : (G : Tree) (k : ℤ) → IsFloor 60 G k → num 61 k ≤ᵍ G
 over-floor G k f = (f 61 k k (half-cell 60 k)).1 (omega (arith, ints))
@@ -35,14 +36,6 @@ module _ (A B C D : Tree) (a b c d : ℤ) where
           (le-trans _ (A +ᵍ B) _ (plus-le_both (num 61 a) A (num 61 b) B (over-floor A a p) (over-floor B b q))
           (le-trans _ (C +ᵍ D) _ y
           (le-trans _ (num 61 c +ᵍ num 61 d) _ (plus-le_both C (num 61 c) D (num 61 d) (under-ceiling C c r) (under-ceiling D d s)) (num-plus_le 61 c d))))
-
--- a number's ceiling is no greater than its floor
-level : (G : Tree) (f c : ℤ) → IsNumberTree G → IsFloor 60 G f → IsCeiling 60 G c → c ≤ℤ f
-level G f c n p q =
-    let h = cell 60 n.0 n.1 in
-    let under = (p n.0 n.1 h.0 h.1).0 (subst (λ t. num n.0 n.1 ≤ᵍ t) (sym n.2) (le-refl (num n.0 n.1))) in
-    let over = (q n.0 n.1 h.0 h.1).0 (subst (λ t. t ≤ᵍ num n.0 n.1) (sym n.2) (le-refl (num n.0 n.1))) in
-    omega (arith, ints, under, over)
 
 -- the same of ids, as the sums are compared
 pub ceilings-hold : (Ts : List Tree) (p : SumPair) (m n : ℤ) → AreCeilings Ts p.first p.second m → AreFloors Ts p.third p.fourth n → m ≤ℤ n → IsSumWithin Ts p

@@ -8,7 +8,7 @@ ghost use Rattle.game_canon.specs.Comparisons.{SaysAtMost, AreRight};
 ghost use Rattle.game_canon.specs.inner.Comparisons.{recalled, IsOpen, counter, NoneCounters, IsStep};
 
 use crate::comparisons::{Comparisons, recall, recall_near, remember};
-use crate::games::{Games, ceiling, floor, is_number, left_options, right_options};
+use crate::games::{Games, ceiling, floor, left_options, right_options};
 use game_store::GameId;
 use std::alloc::{AllocError, Global};
 
@@ -30,20 +30,25 @@ pub(crate) enum Step {
     },
 }
 
-/// The answer where numbers between or beside the two forms show it.
+/// The answer where numbers between or beside the two forms show it, as they do wherever one of the two is a number.
 fn by_numbers(games: &Games<'_>, a: GameId, b: GameId) -> Option<bool>
     requires games { AreGames games.now }
     requires a { a < length (trees games.now) }
     requires b { b < length (trees games.now) }
-    ensures { IfSome result (λ answer. SaysAtMost (trees games.now) a b answer) }
+    ensures some { IfSome result (λ answer. SaysAtMost (trees games.now) a b answer) }
+    ensures first_form { IfNone result (IsNumberTree (tree_at (trees games.now) a) → ⊥) }
+    ensures second_form { IfNone result (IsNumberTree (tree_at (trees games.now) b) → ⊥) }
 {
-    if ceiling(games, a) <= floor(games, b) {
-        return Some(true);
-    }
-    if floor(games, a) > floor(games, b) {
+    let low = floor(games, a);
+    let other_low = floor(games, b);
+    if low > other_low {
         return Some(false);
     }
-    if ceiling(games, a) > ceiling(games, b) {
+    let high = ceiling(games, a);
+    if high <= other_low {
+        return Some(true);
+    }
+    if high > ceiling(games, b) {
         return Some(false);
     }
     None
@@ -58,12 +63,6 @@ fn settled(games: &Games<'_>, a: GameId, b: GameId) -> Option<bool>
     ensures first_form { IfNone result (IsNumberTree (tree_at (trees games.now) a) → ⊥) }
     ensures second_form { IfNone result (IsNumberTree (tree_at (trees games.now) b) → ⊥) }
 {
-    if is_number(games, a) {
-        return Some(floor(games, a) <= floor(games, b));
-    }
-    if is_number(games, b) {
-        return Some(ceiling(games, a) <= ceiling(games, b));
-    }
     if a == b {
         return Some(true);
     }

@@ -92,22 +92,6 @@ fn unstored_of<'a>(games: &Games<'a>, id: GameId) -> Option<Unstored<'a>>
     games.unstored
 }
 
-/// Whether the form is a number.
-pub(crate) fn is_number(games: &Games<'_>, id: GameId) -> bool
-    requires known { AreGames games.now }
-    requires id { id < length (trees games.now) }
-    ensures number { IsTrue result → (x : ℤ) × (tree_at (trees games.now) id ≡ number_tree x) }
-    ensures other { result ≡ false → IsNumberTree (tree_at (trees games.now) id) → ⊥ }
-{
-    if let Some(_form) = unstored_of(games, id) {
-        return false;
-    }
-    match games.store.node(id) {
-        Form::Number(_) => true,
-        Form::Options { .. } => false,
-    }
-}
-
 /// The Left options of a form that is no number.
 pub(crate) fn left_options<'a>(games: &Games<'a>, id: GameId) -> &'a [GameId]
     requires known { AreGames games.now }

@@ -1,6 +1,6 @@
 //! Options that are reversible through an answer.
 
-ghost use Rattle.std.specs.Prelude.{ℕ, ◌≡◌, ◌<◌, ◌⊎◌, length, slice_index, IfOk, MatchOption};
+ghost use Rattle.std.specs.Prelude.{ℕ, ◌≡◌, ◌<◌, ◌⊎◌, length, slice_index, IfOk, IsTrue, MatchOption};
 ghost use Rattle.short_games.specs.Tree.{Has, tree_at};
 ghost use Rattle.short_games.specs.Number.{IsNumberTree};
 ghost use Rattle.game_store.specs.Meaning.{pick, AreIds};
@@ -15,6 +15,33 @@ use crate::ids::Ids;
 use crate::side::{Side, far_of, form_covers, near_of};
 use game_store::{Form, GameId, Store};
 use std::alloc::{AllocError, Global};
+
+/// The other side's options of the form beside the store. It covers none of them.
+fn moves_against<'a>(games: &Games<'a>, side: Side) -> &'a [GameId]
+    ensures { (j : ℕ) → j < length result.now → Covers side
+        (tree_at games.now.store.now (slice_index result.now j)) (beside games.now) → ⊥ }
+{
+    match games.unstored {
+        Some(form) => far_of(side, form.left, form.right),
+        None => &[],
+    }
+}
+
+/// From a place on in ascending ids, the place of the first that isn't below an id.
+fn place_from(ids: &[GameId], start: usize, id: GameId) -> usize {
+    let mut place = start;
+    'below: while place < ids.len() && ids[place] < id {
+        place += 1;
+    }
+    place
+}
+
+/// Whether an id stands at the place.
+fn is_at(ids: &[GameId], place: usize, id: GameId) -> bool
+    ensures { IsTrue result → (place < length ids.now) × (slice_index ids.now place ≡ id) }
+{
+    place < ids.len() && ids[place] == id
+}
 
 /// The first of the games that the form beside the store covers.
 fn first_covered(
@@ -35,7 +62,13 @@ fn first_covered(
         × Covers side (tree_at games.now.store.now id) (beside games.now))) }
     ensures known { IsKnown games.now (recalled memo.new) }
 {
+    let moves = moves_against(games, side);
+    let mut place = 0;
     for id in ids {
+        place = place_from(moves, place, *id);
+        if is_at(moves, place, *id) {
+            continue;
+        }
         if form_covers(alloc, memo, games, side, *id)? {
             return Ok(Some(*id));
         }
@@ -69,7 +102,8 @@ fn answer_to(
     }
 }
 
-/// The first reversible option of the side: its place, and the answer that reverses it.
+/// The last reversible option of the side: its place, and the answer that reverses it. What is stored last has the most
+/// answers, and the options that come in its place are mostly there already.
 fn reversible(
     alloc: Global,
     memo: &mut Comparisons,
@@ -86,8 +120,10 @@ fn reversible(
         (slice_index ids.now at.0) at.1)) }
     ensures known { IsKnown games.now (recalled memo.new) }
 {
-    for (place, id) in ids.iter().enumerate() {
-        if let Some(answer) = answer_to(alloc, memo, games, side, *id)? {
+    let mut place = ids.len();
+    'places: while place > 0 {
+        place -= 1;
+        if let Some(answer) = answer_to(alloc, memo, games, side, ids[place])? {
             return Ok(Some((place, answer)));
         }
     }
