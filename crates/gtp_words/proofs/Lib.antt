@@ -4,4 +4,5 @@ pub mod FileLemmas
 pub mod LoadLemmas
 pub mod FailedLoadLemmas
 pub mod TakenLineLemmas
+pub mod OneTextLaws
 pub mod SessionLemmas

@@ -4,4 +4,5 @@ pub mod Replies
 pub mod Loads
 pub mod Files
 pub mod Sessions
+pub mod Laws
 pub mod inner

@@ -2,6 +2,7 @@
 #![tactic(auto)]
 
 mod end;
+mod laws;
 mod loading;
 mod loads;
 mod replies;
@@ -10,6 +11,7 @@ mod vertices;
 mod words;
 
 pub use end::GtpEnd;
+pub use laws::{RepliesAlike, session_laws};
 pub use loading::{Loading, load};
 pub use loads::{Loads, MOST_LOADS};
 pub use replies::compose;
