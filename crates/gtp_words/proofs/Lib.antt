@@ -5,4 +5,5 @@ pub mod LoadLemmas
 pub mod FailedLoadLemmas
 pub mod TakenLineLemmas
 pub mod OneTextLaws
+pub mod OneWordsLaws
 pub mod SessionLemmas
