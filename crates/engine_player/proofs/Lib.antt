@@ -1,5 +1,6 @@
 pub mod MoveLaws
 pub mod EngineGameLaws
+pub mod AlikeLaws
 pub mod PlainLemmas
 pub mod RoomLemmas
 pub mod PreparedLemmas

@@ -6,3 +6,6 @@ pub mod AnswerLemmas
 pub mod WinLemmas
 pub mod KomiLemmas
 pub mod RoomLemmas
+pub mod SizeLaws
+pub mod OneRequestLaws
+pub mod OneTextLaws
