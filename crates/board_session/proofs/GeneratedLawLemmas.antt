@@ -22,6 +22,7 @@ use Rattle.endgame_solver.specs.Regions.{no_region, region_at}
 use Rattle.endgame_solver.specs.Solved.{Begun, Chooses, HasMove}
 use Rattle.endgame_solver.proofs.BeginLaws.{one_regions}
 use Rattle.fault_words.specs.FaultWords.{AreFaultWords}
+use Rattle.engine_player.proofs.AlikeLaws.{move_back, opened_purses, winning_alike, wins_alike, with_marks}
 use Rattle.board_session.specs.declared.position.BoardMove.TheVariants as made
 use Rattle.board_session.specs.declared.position.Position.{Position}
 use Rattle.board_session.specs.GeneratedLaws.{BoardsStaySettled, GameGoesOn, OneKindIsTold, OpensIn, WinIsKept}
@@ -30,7 +31,7 @@ use Rattle.board_session.specs.States.{present}
 use Rattle.board_session.specs.Tallies.{Tally, grown}
 use Rattle.board_session.proofs.GeneratingLemmas.{chosen_legal}
 use Rattle.board_session.proofs.KeptLemmas.{after_push}
-use Rattle.board_session.proofs.OpenedLemmas.{OpensSo, halved_on, move_back, opened_alike, opened_purses, spent, winning_alike, wins_alike, with_marks}
+use Rattle.board_session.proofs.OpenedLemmas.{OpensSo, halved_on, opened_alike, spent}
 use Rattle.board_session.proofs.SettledLemmas.{placed_declares, placed_settled}
 
 -- a game without cycles is one that its position opens

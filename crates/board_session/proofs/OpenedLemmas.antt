@@ -1,5 +1,5 @@
 -- Games that positions open, less the passes: what a move that puts no stone makes of them, and that they are alike.
-use Rattle.std.proofs.Common.{◌≡◌, ◌≢◌, ◌≤◌, ◌+◌, ◌-◌, ◌/◌, ◌%◌, ◌↔◌, ◌⊎◌, ℕ, ℤ, zero, suc, pos, negsuc, ◌+ℤ◌, ◌-ℤ◌, nat_eq, cond, Bool, List, arith, inl, inr, refl, sym, ap, ◌∙◌, subst}
+use Rattle.std.proofs.Common.{◌≡◌, ◌≢◌, ◌≤◌, ◌+◌, ◌-◌, ◌/◌, ◌%◌, ◌⊎◌, ℕ, ℤ, zero, suc, pos, negsuc, ◌+ℤ◌, ◌-ℤ◌, nat_eq, cond, Bool, arith, inl, inr, refl, sym, ap, ◌∙◌, subst}
 use Rattle.std.proofs.lemmas.Bool.{cases_eq}
 use Rattle.std.proofs.lemmas.Int.{ints}
 use Rattle.go_grid.specs.Board.{other}
@@ -10,16 +10,12 @@ use Rattle.sgf_go.specs.declared.settings.Setup.{Setup}
 use Rattle.whole_rules.specs.declared.money.Purses.{Purses}
 use Rattle.whole_rules.specs.declared.money.Token.{Token}
 use Rattle.whole_rules.specs.declared.money.Token.TheVariants as token
-use Rattle.whole_rules.specs.declared.states.Move.{Move}
-use Rattle.whole_rules.specs.declared.states.Move.TheVariants.{Stone, Spend, Half}
-use Rattle.whole_rules.specs.FirstWinningMove.{IsWinning}
+use Rattle.whole_rules.specs.declared.states.Move.TheVariants.{Spend, Half}
 use Rattle.whole_rules.specs.Opening.{komi_points, komi_token}
-use Rattle.whole_rules.specs.OpeningWith.{Ground}
-use Rattle.whole_rules.specs.PlainRecursion.{LosesWithin, WinsWithin}
 use Rattle.whole_rules.specs.Purses.{halved, paid_out, purse}
-use Rattle.whole_rules.specs.WholeGame.{IsMove, Leads, Whole}
-use Rattle.whole_rules.proofs.OpeningLaws.{beside_komi}
+use Rattle.whole_rules.specs.WholeGame.{IsMove, Whole}
 use Rattle.endgame_solver.specs.Solved.{OpensAs}
+use Rattle.engine_player.proofs.AlikeLaws.{AreMarkedAlike, opened_purses, with_marks}
 use Rattle.board_session.specs.declared.position.Position.{Position}
 use Rattle.board_session.specs.Generating.{PayFor, after_passes, komi_halved, less_passes, setup_of}
 use Rattle.board_session.specs.Tallies.{Tally, grown}
@@ -154,55 +150,6 @@ module _ {tax : Bool} {a : Position} {k : ℤ} {c : Colour} {w : Whole} (opens :
         less = moved.1 ∙ ap (λ d. record start { purses = halved d (less_passes a.passes m); side = other d }) turn
             ∙ ap (λ z. record start { purses = z; side = other c }) (less_halved c a.passes m.black m.white m.token opens.pay.black opens.pay.white);
       }
-
--- States that differ in their lists of contested points, but not in these points.
-abbrev pub AreMarkedAlike : List Bool → List Bool → Type 0
-AreMarkedAlike x y = (p : ℕ) → IsMarked x p ↔ IsMarked y p
-
--- the state with the other list
-abbrev pub with_marks : Whole → List Bool → Whole
-with_marks w y = record w { contested = y }
-
-move_alike : (w t : Whole) (y : List Bool) (m : Move) → AreMarkedAlike w.contested y → IsMove w m t → IsMove (with_marks w y) m (with_marks t y)
-move_alike w t y (Stone p) alike (marked, (h, (n, placed, taken, is))) = ((alike p).0 marked, (h, (n, placed, taken, ap (λ z. with_marks z y) is)))
-move_alike w t y Spend alike (some, is) = (some, ap (λ z. with_marks z y) is)
-move_alike w t y Half alike (some, is) = (some, ap (λ z. with_marks z y) is)
-
-marks_stay : (w t : Whole) (m : Move) → IsMove w m t → t.contested ≡ w.contested
-marks_stay w t (Stone p) (marked, (h, (n, placed, taken, is))) = ap (λ z. z.contested) is
-marks_stay w t Spend (some, is) = ap (λ z. z.contested) is
-marks_stay w t Half (some, is) = ap (λ z. z.contested) is
-
-pub move_back : (w u : Whole) (y : List Bool) (m : Move) → AreMarkedAlike w.contested y → IsMove (with_marks w y) m u → IsMove w m (with_marks u w.contested)
-move_back w u y m alike move = move_alike (with_marks w y) u w.contested m (λ p. ((alike p).1, (alike p).0)) move
-
-same_marks : (w u : Whole) (y : List Bool) (m : Move) → IsMove (with_marks w y) m u → with_marks u y ≡ u
-same_marks w u y m move = let e = marks_stay (with_marks w y) u m move in λ i. record u { contested = sym e i }
-
-mutual
-  pub wins_alike : (n : ℕ) (w : Whole) (y : List Bool) → AreMarkedAlike w.contested y → WinsWithin Whole Leads n w → WinsWithin Whole Leads n (with_marks w y)
-  wins_alike zero w y alike wins = wins
-  wins_alike (suc n) w y alike (t, (m, move), loses) =
-      (with_marks t y, (m, move_alike w t y m alike move), loses_alike n t y (subst (λ x. AreMarkedAlike x y) (sym (marks_stay w t m move)) alike) loses)
-
-  loses_alike : (n : ℕ) (w : Whole) (y : List Bool) → AreMarkedAlike w.contested y → LosesWithin Whole Leads n w → LosesWithin Whole Leads n (with_marks w y)
-  loses_alike zero w y alike loses = λ u (m, move). loses (with_marks u w.contested) (m, move_back w u y m alike move)
-  loses_alike (suc n) w y alike loses = λ u (m, move).
-      subst (WinsWithin Whole Leads n) (same_marks w u y m move)
-      (wins_alike n (with_marks u w.contested) y alike (loses (with_marks u w.contested) (m, move_back w u y m alike move)))
-
-pub winning_alike : (w : Whole) (y : List Bool) (m : Move) → AreMarkedAlike w.contested y → IsWinning w m → IsWinning (with_marks w y) m
-winning_alike w y m alike (t, move, (n, loses)) =
-    (with_marks t y, move_alike w t y m alike move, (n, loses_alike n t y (subst (λ x. AreMarkedAlike x y) (sym (marks_stay w t m move)) alike) loses))
-
--- the purses with which a position opens
-pub opened_purses : (tax : Bool) (setup : Setup) (s t : Whole) → OpensAs setup tax s → OpensAs setup tax t → s.purses ≡ t.purses
-opened_purses tax setup s t p q =
-    let x : Ground = record { board = setup.board; black_prisoners = setup.black_prisoners; white_prisoners = setup.white_prisoners; tax = tax } in
-    let points = beside_komi x setup.komi_halves setup.side s p in
-    let black = points.1.black setup.komi_halves setup.side s p ∙ sym (points.1.black setup.komi_halves setup.side t q) in
-    let white = points.1.white setup.komi_halves setup.side s p ∙ sym (points.1.white setup.komi_halves setup.side t q) in
-    λ i. record { black = black i; white = white i; token = (p.token ∙ sym q.token) i }
 
 -- two games that a position opens differ in these lists alone
 pub opened_alike : (tax : Bool) (setup : Setup) (passes : Tally) (v w : Whole) → OpensSo tax setup passes v → OpensSo tax setup passes w
