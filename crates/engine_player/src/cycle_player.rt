@@ -24,7 +24,7 @@ use go_grid::Colour;
 use local_graph::MOST_POSITIONS;
 use local_play::Steps;
 use sgf_go::Setup;
-use std::alloc::Global;
+use std::alloc::{AllocError, Global};
 use std::marker::Model;
 use std::sync::ledger::Ledger;
 use whole_rules::{Move, MoveError, Whole};
@@ -54,6 +54,31 @@ impl Model for CyclePlayer {
 
     ghost invariant = { λ p. IsFitPlayer p.game p.black p.white p.scratch.items
         p.moves };
+}
+
+/// What a game begins with beside its position: both colours keep nothing, and there is a list where budgets are reduced.
+#[derive(Drop)]
+struct Beginning {
+    black: Kept,
+    white: Kept,
+    scratch: Vec<usize>,
+}
+
+/// What a game of so many regions begins with.
+fn begin_keeping(alloc: Global, regions: usize) -> Result<Beginning, AllocError>
+    ensures nothing { IfOk result (λ begun. (begun.black.is_kept ≡ false)
+        × (begun.white.is_kept ≡ false)) }
+    ensures many { IfOk result (λ begun. (length begun.black.budgets.items ≡ regions)
+        × (length begun.white.budgets.items ≡ regions) × (length begun.scratch.items ≡ regions)) }
+{
+    let black = Kept::nothing(alloc, regions)?;
+    let white = Kept::nothing(alloc, regions)?;
+    let scratch = vec![in alloc; 0; regions]?;
+    Ok(Beginning {
+        black,
+        white,
+        scratch,
+    })
 }
 
 /// Puts the least budgets of the side to move into the scratch, if it keeps some or wins.
@@ -197,17 +222,19 @@ impl CyclePlayer {
     {
         let _size = setup.board.size();
         let game = CycleGame::begin(alloc, setup, limits, most, steps)?;
-        let regions = game.regions();
-        let black = Kept::nothing(alloc, regions)?;
-        let white = Kept::nothing(alloc, regions)?;
-        let scratch = vec![in alloc; 0; regions]?;
-        Ok(CyclePlayer {
-            game,
-            black,
-            white,
-            scratch,
-            moves: 0,
-        })
+        match begin_keeping(alloc, game.regions()) {
+            Ok(begun) => Ok(CyclePlayer {
+                game,
+                black: begun.black,
+                white: begun.white,
+                scratch: begun.scratch,
+                moves: 0,
+            }),
+            Err(cause) => {
+                drop(game);
+                Err(CycleError::Memory(cause))
+            }
+        }
     }
 
     /// The present state.
