@@ -234,7 +234,11 @@ fn reply_settled<L: Ledger>(
         → steps.new ≤ steps.old + most_steps limits.now regions }
 {
     match Solved::begin(alloc, setup, limits, steps) {
-        Ok(mut game) => reply_on(alloc, id, topic, &mut game, setup.komi_halves),
+        Ok(mut game) => {
+            let reply = reply_on(alloc, id, topic, &mut game, setup.komi_halves);
+            drop(game);
+            reply
+        }
         Err(fault) => {
             let size = setup.board.size();
             let words = fault_words(alloc, Naming::Gtp, size, limits, fault)?;

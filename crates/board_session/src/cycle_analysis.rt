@@ -87,7 +87,11 @@ fn reply_settled<L: Ledger>(
         → steps.new ≤ steps.old + most_steps limits.now regions }
 {
     match CycleGame::begin(alloc, setup, limits, MOST_CAPTURES, steps) {
-        Ok(mut game) => reply_on(alloc, id, topic, &mut game, setup.komi_halves),
+        Ok(mut game) => {
+            let reply = reply_on(alloc, id, topic, &mut game, setup.komi_halves);
+            drop(game);
+            reply
+        }
         Err(fault) => {
             let size = setup.board.size();
             let words = words_of(alloc, size, limits, fault)?;

@@ -121,8 +121,9 @@ pub(crate) fn solve_with_cycles<L: Ledger>(
 {
     match CycleGame::begin(alloc, setup, limits, MOST_CAPTURES, steps) {
         Ok(mut game) => {
-            let report = report_game(alloc, question, &mut game, setup.komi_halves)?;
-            Ok(report)
+            let report = report_game(alloc, question, &mut game, setup.komi_halves);
+            drop(game);
+            report
         }
         Err(fault) => {
             let report = refused_with_cycles(alloc, setup.board.size(), limits, fault)?;

@@ -52,6 +52,7 @@ pub(crate) fn run_gtp<H: Shelf, S: Source, K: Sink, L: Ledger>(
     let end = engine.run(shelf, lines, out, steps);
     // The call says that the list ascends.
     let _failed = engine.loads().failures();
+    drop(engine);
     close(end, out)
 }
 
@@ -77,5 +78,6 @@ pub(crate) fn run_board<H: Shelf, S: Source, K: Sink, L: Ledger>(
     let end = engine.run(shelf, lines, out, steps);
     // The call says that the list ascends.
     let _failed = engine.loads().failures();
+    drop(engine);
     close(end, out)
 }

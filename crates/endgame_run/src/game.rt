@@ -96,7 +96,11 @@ pub(crate) fn run_game<H: Shelf, S: Source, K: Sink, L: Ledger>(
         settings.now steps.old steps.new }
 {
     match open_game(alloc, game, settings, shelf, lines, steps) {
-        Ok(Opened::Game(mut session)) => play(&mut session, lines, out),
+        Ok(Opened::Game(mut session)) => {
+            let status = play(&mut session, lines, out);
+            drop(session);
+            status
+        }
         Ok(Opened::Fault(report)) => finish(out, report.status, report.text.as_slice()),
         Err(_) => Status::Memory,
     }

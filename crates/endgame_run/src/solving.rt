@@ -144,8 +144,9 @@ pub(crate) fn solve<L: Ledger>(
 {
     match Solved::begin(alloc, setup, limits, steps) {
         Ok(mut solved) => {
-            let report = report_game(alloc, question, &mut solved, setup.komi_halves)?;
-            Ok(report)
+            let report = report_game(alloc, question, &mut solved, setup.komi_halves);
+            drop(solved);
+            report
         }
         Err(fault) => {
             let report = refused(alloc, setup.board.size(), limits, fault)?;

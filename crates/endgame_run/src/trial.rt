@@ -44,8 +44,9 @@ fn text_of<L: Ledger>(alloc: Global, number: u32, steps: &mut Steps<L>) -> Resul
     let setup = board_gen::make(alloc, number)?;
     match Solved::begin(alloc, &setup, &LIMITS, steps) {
         Ok(mut solved) => {
-            let text = trial_text(alloc, number, &mut solved)?;
-            Ok(text)
+            let text = trial_text(alloc, number, &mut solved);
+            drop(solved);
+            text
         }
         Err(fault) => Err(want_of_memory(fault)),
     }

@@ -17,9 +17,9 @@ fault_words-requires g c =
 
 pub returns-in-Ok-clause-replied : goal.returns-in-Ok-clause-replied
 returns-in-Ok-clause-replied g c =
-    replies_in c.args.limits.now c.args.topic c.args.setup.now c.in-Ok.game c.args.id.now c.reply_on.result c.requires.fit.settled c.in-Ok.ensures.begun
-    (subst (λ k. IfOk c.reply_on.result (RepliesOn c.args.topic c.in-Ok.game.regions c.in-Ok.game.state k c.args.id.now)) (same_komi c.args.setup.now.komi_halves c.requires.fit.komi)
-    c.reply_on.ensures)
+    replies_in c.args.limits.now c.args.topic c.args.setup.now c.in-Ok.game c.args.id.now c.reply_on-reply.result c.requires.fit.settled c.in-Ok.ensures.begun
+    (subst (λ k. IfOk c.reply_on-reply.result (RepliesOn c.args.topic c.in-Ok.game.regions c.in-Ok.game.state k c.args.id.now)) (same_komi c.args.setup.now.komi_halves c.requires.fit.komi)
+    c.reply_on-reply.ensures)
 
 pub returns-in_ok-words-in-Err-clause-replied : goal.returns-in_ok-words-in-Err-clause-replied
 returns-in_ok-words-in-Err-clause-replied g c =

@@ -16,9 +16,9 @@ words_of-requires g c =
 
 pub returns-in-Ok-clause-replied : goal.returns-in-Ok-clause-replied
 returns-in-Ok-clause-replied g c =
-    cycles_reply_in c.args.limits.now c.args.topic c.args.setup.now c.args.id.now c.in-Ok.game c.reply_on.result c.requires.fit.settled c.in-Ok.ensures.begun
-    (subst (λ k. IfOk c.reply_on.result (RepliesOnWithCycles c.args.topic c.in-Ok.game.state k c.args.id.now)) (same_komi c.args.setup.now.komi_halves c.requires.fit.komi)
-    c.reply_on.ensures)
+    cycles_reply_in c.args.limits.now c.args.topic c.args.setup.now c.args.id.now c.in-Ok.game c.reply_on-reply.result c.requires.fit.settled c.in-Ok.ensures.begun
+    (subst (λ k. IfOk c.reply_on-reply.result (RepliesOnWithCycles c.args.topic c.in-Ok.game.state k c.args.id.now)) (same_komi c.args.setup.now.komi_halves c.requires.fit.komi)
+    c.reply_on-reply.ensures)
 
 pub returns-in_ok-words-in-Err-clause-replied : goal.returns-in_ok-words-in-Err-clause-replied
 returns-in_ok-words-in-Err-clause-replied g c =

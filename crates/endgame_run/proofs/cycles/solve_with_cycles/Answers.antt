@@ -1,5 +1,8 @@
 use Rattle.std.proofs.Common.{rules, subst, sym, ap, ◌∙◌}
+use Rattle.std.proofs.lemmas.Result.{IfOk-weaker}
+use Rattle.gd_words.specs.declared.job.Question.TheVariants.{WithCycles}
 use Rattle.endgame_run.specs.Cycles.{cycle_refusal_line}
+use Rattle.endgame_run.specs.Question.{IsPositionAnswer}
 use Rattle.endgame_run.specs.inner.Refusal.{NamesCyclePoints}
 use Rattle.endgame_run.proofs.CycleAnswers.{cycle_fault_answer, cycle_game_answer, names_cycle_points}
 use Rattle.endgame_run.proofs.cycles.solve_with_cycles.Goals as goal
@@ -8,10 +11,11 @@ pub refused_with_cycles-requires : goal.refused_with_cycles-requires
 refused_with_cycles-requires g c =
     subst (λ n. NamesCyclePoints n c.in-Err.fault) (sym c.size.ensures.area) (names_cycle_points c.args.setup.now c.args.limits.now c.in-Err.fault c.in-Err.ensures.begun)
 
-pub returns-in_ok-report-in-Ok-clause-answer : goal.returns-in_ok-report-in-Ok-clause-answer
-returns-in_ok-report-in-Ok-clause-answer g c =
-    cycle_game_answer c.args.question c.args.setup.now c.args.limits.now c.in-Ok.game _ c.in_ok-report-in-Ok.report.status c.in_ok-report-in-Ok.report.text
-    (search rules) c.in-Ok.ensures.begun c.in_ok-report-in-Ok.ensures
+pub returns-in-Ok-clause-answer : goal.returns-in-Ok-clause-answer
+returns-in-Ok-clause-answer g c =
+    let q = c.args.question in let setup = c.args.setup.now in let limits = c.args.limits.now in let game = c.in-Ok.game in
+    IfOk-weaker c.report_game-report.result _ (λ r. IsPositionAnswer (WithCycles q) limits setup r.status r.text)
+    (λ r. cycle_game_answer q setup limits game _ r.status r.text (search rules) c.in-Ok.ensures.begun) c.report_game-report.ensures
 
 pub returns-in_ok-report-in-Err-clause-answer : goal.returns-in_ok-report-in-Err-clause-answer
 returns-in_ok-report-in-Err-clause-answer g c =

@@ -11,14 +11,14 @@ pub returns-in-Ok-Game-clause-ran : goal.returns-in-Ok-Game-clause-ran
 returns-in-Ok-Game-clause-ran g c =
     let o = outside g.H.Shelf g.S.Source g.K.Sink in
     let a = known o (desk c.args.shelf.now c.args.lines.now c.args.out.now) in
-    let b = known o (desk c.open_game.new.shelf c.play.new.lines c.play.new.out) in
+    let b = known o (desk c.open_game.new.shelf c.play-status.new.lines c.play-status.new.out) in
     let session = c.in-Ok-Game.session in
     let same = c.in-Ok-Game.ensures.reads.lines_unread c.requires.apart in record {
-      outcome = inr (opened_game c.args.game.now.limits c.args.game.now.cycles c.args.game.now.engine c.args.settings.now c.args.game.now.word.now a b (input_of g.H.Shelf g.S.Source c.open_game.new.shelf c.open_game.new.lines) c.play.result c.in-Ok-Game.field-0 session c.in-Ok-Game.field-0-is
+      outcome = inr (opened_game c.args.game.now.limits c.args.game.now.cycles c.args.game.now.engine c.args.settings.now c.args.game.now.word.now a b (input_of g.H.Shelf g.S.Source c.open_game.new.shelf c.open_game.new.lines) c.play-status.result c.in-Ok-Game.field-0 session c.in-Ok-Game.field-0-is
           c.in-Ok-Game.ensures.opened
-          (subst (λ l. IsPlayRun session.engine session.game (g.S.Source.left l) (g.S.Source.faults l) (g.S.Source.faults c.play.new.lines) (g.K.Sink.faults c.args.out.now) (g.K.Sink.faults c.play.new.out)
-          (g.K.Sink.holds c.args.out.now) (g.K.Sink.holds c.play.new.out) c.play.result) same c.play.ensures.played));
-      taken = subst (λ l. TakesAtMost most_of_game (g.S.Source.left l) (g.S.Source.left c.play.new.lines)) same c.play.ensures.takes;
+          (subst (λ l. IsPlayRun session.engine session.game (g.S.Source.left l) (g.S.Source.faults l) (g.S.Source.faults c.play-status.new.lines) (g.K.Sink.faults c.args.out.now) (g.K.Sink.faults c.play-status.new.out)
+          (g.K.Sink.holds c.args.out.now) (g.K.Sink.holds c.play-status.new.out) c.play-status.result) same c.play-status.ensures.played));
+      taken = subst (λ l. TakesAtMost most_of_game (g.S.Source.left l) (g.S.Source.left c.play-status.new.lines)) same c.play-status.ensures.takes;
       asked = c.in-Ok-Game.ensures.reads.asked c.requires.apart;
     }
 
@@ -29,10 +29,10 @@ returns-in-Ok-Game-clause-later g c =
       input = record {
         same_files = later.same_files;
         loads = later.loads;
-        reads = let more = c.play.ensures.later_reads in let some = later.reads in omega (arith, some, more);
-        rest = rest_of most_of_game _ _ (subst (λ l. TakesAtMost most_of_game (g.S.Source.left l) (g.S.Source.left c.play.new.lines)) same c.play.ensures.takes);
+        reads = let more = c.play-status.ensures.later_reads in let some = later.reads in omega (arith, some, more);
+        rest = rest_of most_of_game _ _ (subst (λ l. TakesAtMost most_of_game (g.S.Source.left l) (g.S.Source.left c.play-status.new.lines)) same c.play-status.ensures.takes);
       };
-      writes = c.play.ensures.later_writes;
+      writes = c.play-status.ensures.later_writes;
     }
 
 pub returns-in-Ok-Fault-clause-ran : goal.returns-in-Ok-Fault-clause-ran
@@ -69,8 +69,8 @@ returns-in-Err-clause-ran g c =
 pub returns-in-Err-clause-later : goal.returns-in-Err-clause-later
 returns-in-Err-clause-later g c = record { input = c.in-Err.ensures.reads.later; writes = omega arith }
 
-pub play-requires-clause-room : goal.play-requires-clause-room
-play-requires-clause-room g c =
+pub play-status-requires-clause-room : goal.play-status-requires-clause-room
+play-status-requires-clause-room g c =
     opened_room c.args.game.now.limits c.args.game.now.cycles c.args.game.now.engine c.args.settings.now c.args.game.now.word.now
     (input_of g.H.Shelf g.S.Source c.args.shelf.now c.args.lines.now) (input_of g.H.Shelf g.S.Source c.open_game.new.shelf c.open_game.new.lines)
     c.in-Ok-Game.field-0 c.in-Ok-Game.session c.in-Ok-Game.field-0-is c.in-Ok-Game.ensures.opened

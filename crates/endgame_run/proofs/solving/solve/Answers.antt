@@ -1,4 +1,6 @@
 use Rattle.std.proofs.Common.{rules, subst, sym, ap, ◌∙◌}
+use Rattle.std.proofs.lemmas.Result.{IfOk-weaker}
+use Rattle.endgame_run.specs.Question.{IsPositionAnswer}
 use Rattle.endgame_run.specs.Refusal.{refusal_line}
 use Rattle.fault_words.specs.NamedPoints.{NamesPoints}
 use Rattle.fault_words.proofs.NamedPointLemmas.{names_points}
@@ -9,10 +11,11 @@ pub refused-requires : goal.refused-requires
 refused-requires g c =
     subst (λ n. NamesPoints n c.in-Err.fault) (sym c.size.ensures.area) (names_points c.args.setup.now c.args.limits.now c.in-Err.fault c.in-Err.ensures.begun)
 
-pub returns-in_ok-report-in-Ok-clause-answer : goal.returns-in_ok-report-in-Ok-clause-answer
-returns-in_ok-report-in-Ok-clause-answer g c =
-    game_answer c.args.question c.args.setup.now c.args.limits.now c.in-Ok.solved _ c.in_ok-report-in-Ok.report.status c.in_ok-report-in-Ok.report.text c.requires.plain c.requires.regions
-    (search rules) c.in-Ok.ensures.begun c.in_ok-report-in-Ok.ensures
+pub returns-in-Ok-clause-answer : goal.returns-in-Ok-clause-answer
+returns-in-Ok-clause-answer g c =
+    let q = c.args.question in let setup = c.args.setup.now in let limits = c.args.limits.now in let game = c.in-Ok.solved in
+    IfOk-weaker c.report_game-report.result _ (λ r. IsPositionAnswer q limits setup r.status r.text)
+    (λ r. game_answer q setup limits game _ r.status r.text c.requires.plain c.requires.regions (search rules) c.in-Ok.ensures.begun) c.report_game-report.ensures
 
 pub returns-in_ok-report-in-Err-clause-answer : goal.returns-in_ok-report-in-Err-clause-answer
 returns-in_ok-report-in-Err-clause-answer g c =
