@@ -1,6 +1,6 @@
 -- One step of the reduction of a form: an option replaced, then the best ones kept.
 use Rattle.std.proofs.Common.{ℕ, suc, ◌+◌, ◌<◌, ◌≡◌, ◌⊎◌, List, [], ◌∷◌, ◌++◌, length, get_or, take, drop, arith, refl, sym, ◌∙◌, inl, inr, ap, subst, Bool, true, false, cond}
-use Rattle.std.specs.Prelude.{Option, Some, None, MatchOption}
+use Rattle.std.specs.Prelude.{Option, Some, None, MatchOption, Result, Ok, Err, IfOk}
 use Rattle.std.proofs.Math.Seq.{drop-cons}
 use Rattle.std.proofs.lemmas.List.{take-append-drop, length-drop, length-take, get_or-take, get_or-drop}
 use Rattle.std.proofs.lemmas.Bool.{true≢false}
@@ -143,6 +143,11 @@ far-option Right G X h = inl h
 near-option : (s : Side) (G X : Tree) → Has (near s G) X → IsOption G X
 near-option Left G X h = inl h
 near-option Right G X h = inr h
+
+-- what two clauses tell of an answer
+pub both_ok : {T F : Type 0} (r : Result T F) (P Q R : T → Type 0) → ((v : T) → P v → Q v → R v) → IfOk r P → IfOk r Q → IfOk r R
+both_ok (Ok v) P Q R then p q = then v p q
+both_ok (Err e) P Q R then p q = tt
 
 pub smaller-from : (s : Side) (Ts : List Tree) (G : Tree) (ns is vs : List ℕ) (place answer : ℕ) → (IsNumber G → ⊥) → place < length ns → IsReversal s Ts G (get_or ns place 0) answer → IsReplaced s Ts ns place answer is → AreBest s Ts is vs → IsAscending vs → IsSmaller s Ts G ns vs
 smaller-from s Ts G ns is vs place answer n l a r b u = record {

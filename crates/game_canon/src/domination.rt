@@ -1,6 +1,6 @@
 //! Options that aren't dominated.
 
-ghost use Rattle.std.specs.Prelude.{ℕ, ◌≡◌, ◌<◌, ◌↔◌, List, [], ◌∷◌, ◌++◌, length, slice_index, IfOk, IsTrue};
+ghost use Rattle.std.specs.Prelude.{ℕ, ◌≡◌, ◌<◌, ◌↔◌, List, [], ◌∷◌, ◌++◌, length, slice_index, IfOk, IsTrue, OnOk};
 ghost use Rattle.short_games.specs.Tree.{tree_at};
 ghost use Rattle.game_store.specs.Meaning.{pick, AreIds, IsAscending};
 ghost use Rattle.game_canon.specs.inner.Comparisons.{recalled};
@@ -9,7 +9,7 @@ ghost use Rattle.game_canon.specs.inner.Sides.{Covers, AreBest, AreFree, IsWitho
 
 use crate::comparisons::Comparisons;
 use crate::games::Games;
-use crate::ids::{Ids, in_order};
+use crate::ids::{Ids, in_order, put};
 use crate::side::{Side, is_covered};
 use game_store::GameId;
 use std::alloc::{AllocError, Global};
@@ -39,78 +39,79 @@ fn none_covers(
     Ok(true)
 }
 
-/// Those of the games that `top` doesn't cover.
-fn without_covered(
+/// Puts those of the games that `top` doesn't cover into an empty list.
+fn put_uncovered(
     alloc: Global,
     memo: &mut Comparisons,
     games: &Games<'_>,
     side: Side,
     ids: &[GameId],
     top: GameId,
-) -> Result<Ids, AllocError>
+    left: &mut Ids,
+) -> Result<(), AllocError>
     requires known { IsKnown games.now (recalled memo.old) }
     requires ids { AreIds games.now.store.now ids.now }
     requires top { top < length games.now.store.now }
-    ensures without { IfOk result (λ v. IsWithout side games.now.store.now ids.now top v.items) }
+    requires empty { left.old.items ≡ [] }
+    ensures without { OnOk result (IsWithout side games.now.store.now
+        ids.now top left.new.items) }
     ensures known { IsKnown games.now (recalled memo.new) }
 {
-    let mut left = Ids::new(alloc);
     for id in ids {
         if is_covered(alloc, memo, games, side, *id, top)? {
             continue;
         }
         left.push(*id)?;
     }
-    Ok(left)
+    Ok(())
 }
 
-/// Those of the games that `top` doesn't cover, and `top`.
-fn with_best(
+/// Takes `top` in among the games, and drops those that it covers.
+fn take_in(
     alloc: Global,
     memo: &mut Comparisons,
     games: &Games<'_>,
     side: Side,
-    ids: &[GameId],
+    best: &mut Ids,
     top: GameId,
-) -> Result<Ids, AllocError>
+) -> Result<(), AllocError>
     requires known { IsKnown games.now (recalled memo.old) }
-    requires ids { AreIds games.now.store.now ids.now }
+    requires ids { AreIds games.now.store.now best.old.items }
     requires top { top < length games.now.store.now }
-    ensures with_top { IfOk result (λ v. (ws : List ℕ) × IsWithout side games.now.store.now
-        ids.now top ws × (v.items ≡ ws ++ top ∷ [])) }
+    ensures with_top { OnOk result ((ws : List ℕ) × IsWithout side games.now.store.now
+        best.old.items top ws × (best.new.items ≡ ws ++ top ∷ [])) }
     ensures known { IsKnown games.now (recalled memo.new) }
 {
-    let mut left = without_covered(alloc, memo, games, side, ids, top)?;
+    let mut left = Ids::new(alloc);
+    put_uncovered(alloc, memo, games, side, best, top, &mut left)?;
     left.push(top)?;
-    Ok(left)
+    put(best, left);
+    Ok(())
 }
 
-/// The best for the side of games of which none covers another, and others.
-fn undominated(
+/// Takes games in among the best, of which none covers another, and drops what isn't best any more.
+fn take_in_all(
     alloc: Global,
     memo: &mut Comparisons,
     games: &Games<'_>,
     side: Side,
-    free: &[GameId],
+    best: &mut Ids,
     ids: &[GameId],
-) -> Result<Ids, AllocError>
+) -> Result<(), AllocError>
     requires known { IsKnown games.now (recalled memo.old) }
-    requires free_ids { AreIds games.now.store.now free.now }
-    requires free { AreFree side (pick games.now.store.now free.now) }
+    requires best { AreBest side games.now.store.now best.old.items best.old.items }
     requires ids { AreIds games.now.store.now ids.now }
-    ensures best { IfOk result (λ v. AreBest side games.now.store.now
-        (free.now ++ ids.now) v.items) }
+    ensures best { OnOk result (AreBest side games.now.store.now
+        (best.old.items ++ ids.now) best.new.items) }
     ensures known { IsKnown games.now (recalled memo.new) }
 {
-    let start = Ids::from_slice(alloc, free)?;
-    let mut best = start;
     for id in ids {
-        if !none_covers(alloc, memo, games, side, &best, *id)? {
+        if !none_covers(alloc, memo, games, side, best, *id)? {
             continue;
         }
-        best = with_best(alloc, memo, games, side, &best, *id)?;
+        take_in(alloc, memo, games, side, best, *id)?;
     }
-    Ok(best)
+    Ok(())
 }
 
 /// The best for the side of games of which none covers another, and others, in ascending order of their ids.
@@ -131,8 +132,9 @@ pub(crate) fn best_in_order(
     ensures ascends { IfOk result (λ v. IsAscending v.items) }
     ensures known { IsKnown games.now (recalled memo.new) }
 {
-    let undominated = undominated(alloc, memo, games, side, free, ids)?;
-    in_order(alloc, &undominated)
+    let mut best = Ids::from_slice(alloc, free)?;
+    take_in_all(alloc, memo, games, side, &mut best, ids)?;
+    in_order(alloc, &best)
 }
 
 /// The best of the games for the side, in ascending order of their ids.

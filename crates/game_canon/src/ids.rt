@@ -21,6 +21,13 @@ pub(crate) fn in_order(alloc: Global, ids: &[GameId]) -> Result<Ids, AllocError>
     Ok(sorted)
 }
 
+/// Puts other ids in the place of a list's.
+pub(crate) fn put(place: &mut Ids, found: Ids)
+    ensures { place.new.items ≡ found.items }
+{
+    *place = found;
+}
+
 /// Ids that were found, each once, in the order in which they were.
 #[derive(Drop)]
 pub(crate) struct Found {

@@ -1,7 +1,7 @@
 //! The reduction of a form that is no number: dominated options go, and reversible ones are bypassed, until there is none
 //! (Conway).
 
-ghost use Rattle.std.specs.Prelude.{ℕ, ◌≡◌, IfOk};
+ghost use Rattle.std.specs.Prelude.{ℕ, ◌≡◌, IfOk, OnOk};
 ghost use Rattle.short_games.specs.Number.{IsNumber};
 ghost use Rattle.short_games.specs.Tree.{AreDistinct};
 ghost use Rattle.short_games.specs.Threshold.{IsFloor, IsCeiling};
@@ -14,8 +14,8 @@ ghost use Rattle.game_canon.specs.inner.Sides.{IsStart, StartsWith, IsReducedFor
 use crate::comparisons::{Comparisons, nothing_known};
 use crate::domination::best;
 use crate::games::{Games, Standing, games_beside, games_of};
-use crate::ids::Ids;
-use crate::reversal::bypassed;
+use crate::ids::{Ids, put};
+use crate::reversal::bypass;
 use crate::side::Side;
 use dyadic_num::EXPONENT;
 use game_store::{Bound, GameId, Store};
@@ -38,11 +38,28 @@ fn copied(alloc: Global, left: &[GameId], right: &[GameId]) -> Result<Lists, All
     Ok(Lists { left, right })
 }
 
-/// Puts other options in the place of those of a side.
-fn put(place: &mut Ids, found: Ids)
-    ensures { place.new.items ≡ found.items }
+/// Bypasses every reversible one of the options of the form beside the store, of which none is dominated.
+fn bypass_lists(
+    alloc: Global,
+    memo: &mut Comparisons,
+    games: &Games<'_>,
+    left: &mut Ids,
+    right: &mut Ids,
+) -> Result<(), AllocError>
+    requires known { IsKnown games.now (recalled memo.old) }
+    requires form { IsFormBeside games.now left.old.items right.old.items }
+    requires start { IsStart games.now.store.now left.old.items right.old.items }
+    ensures { OnOk result (IsReducedForm games.now.store.now
+        (beside games.now) left.new.items right.new.items) }
 {
-    *place = found;
+    'rounds: loop {
+        if bypass(alloc, memo, games, Side::Left, left)? {
+            continue;
+        }
+        if !bypass(alloc, memo, games, Side::Right, right)? {
+            return Ok(());
+        }
+    }
 }
 
 /// The options of the form beside the store, of which none is dominated, with every reversible one bypassed.
@@ -60,17 +77,8 @@ fn bypass_all(
         (beside games.now) lists.left.items lists.right.items) }
 {
     let mut lists = copied(alloc, left, right)?;
-    'rounds: loop {
-        if let Some(found) = bypassed(alloc, memo, games, Side::Left, &lists.left)? {
-            put(&mut lists.left, found);
-            continue;
-        }
-        if let Some(found) = bypassed(alloc, memo, games, Side::Right, &lists.right)? {
-            put(&mut lists.right, found);
-            continue;
-        }
-        return Ok(lists);
-    }
+    bypass_lists(alloc, memo, games, &mut lists.left, &mut lists.right)?;
+    Ok(lists)
 }
 
 /// The best of the options of both sides, in ascending order.

@@ -1,6 +1,7 @@
 //! Options that are reversible through an answer.
 
-ghost use Rattle.std.specs.Prelude.{ℕ, ◌≡◌, ◌<◌, ◌⊎◌, length, slice_index, IfOk, IsTrue, MatchOption};
+ghost use Rattle.std.specs.Prelude.{ℕ, ◌≡◌, ◌<◌, ◌⊎◌, [], length, slice_index, IfOk, IsTrue, OnOk, MatchOption};
+ghost use Rattle.std.specs.Bool.{OnTrue, OnFalse};
 ghost use Rattle.short_games.specs.Tree.{Has, tree_at};
 ghost use Rattle.short_games.specs.Number.{IsNumberTree};
 ghost use Rattle.game_store.specs.Meaning.{pick, AreIds};
@@ -11,7 +12,7 @@ ghost use Rattle.game_canon.specs.inner.Sides.{Covers, AreFree, IsRefilled, IsRe
 use crate::comparisons::Comparisons;
 use crate::domination::best_in_order;
 use crate::games::Games;
-use crate::ids::Ids;
+use crate::ids::{Ids, put};
 use crate::side::{Side, far_of, form_covers, near_of};
 use game_store::{Form, GameId, Store};
 use std::alloc::{AllocError, Global};
@@ -130,58 +131,86 @@ fn reversible(
     Ok(None)
 }
 
-/// The ids with that at `place` replaced by the side's options of the answer, or by nothing where the answer is a number.
-fn replaced(
-    alloc: Global,
+/// Puts into an empty list the ids with that at `place` replaced by the side's options of the answer, or by nothing where
+/// the answer is a number.
+fn put_replaced(
     store: &Store,
     side: Side,
     ids: &[GameId],
     place: usize,
     answer: GameId,
-) -> Result<Ids, AllocError>
+    all: &mut Ids,
+) -> Result<(), AllocError>
     requires ids { AreIds store.now ids.now }
     requires place { place < length ids.now }
     requires answer { answer < length store.now }
-    ensures replaced { IfOk result (λ v. IsReplaced side store.now ids.now place answer v.items) }
-    ensures refilled { IfOk result (λ v. IsRefilled ids.now place v.items) }
+    requires empty { all.old.items ≡ [] }
+    ensures replaced { OnOk result (IsReplaced side store.now ids.now
+        place answer all.new.items) }
+    ensures refilled { OnOk result (IsRefilled ids.now place all.new.items) }
 {
-    let mut all = Ids::new(alloc);
     all.extend_from_slice(&ids[..place])?;
     all.extend_from_slice(&ids[place + 1..])?;
     match store.node(answer) {
-        Form::Number(_) => Ok(all),
-        Form::Options { left, right } => {
-            all.extend_from_slice(near_of(side, left, right))?;
-            Ok(all)
-        }
+        Form::Number(_) => Ok(()),
+        Form::Options { left, right } => all.extend_from_slice(near_of(side, left, right)),
     }
 }
 
-/// The side's options, of which none is dominated, with one reversible option bypassed and the dominated ones dropped,
-/// where there is a reversible one.
-pub(crate) fn bypassed(
+/// The side's options, of which none is dominated, with that at `place` bypassed, which the answer reverses, and the
+/// dominated ones dropped.
+fn bypassed(
     alloc: Global,
     memo: &mut Comparisons,
     games: &Games<'_>,
     side: Side,
     ids: &[GameId],
-) -> Result<Option<Ids>, AllocError>
+    place: usize,
+    answer: GameId,
+) -> Result<Ids, AllocError>
     requires known { IsKnown games.now (recalled memo.old) }
     requires form { HasForm games.now }
     requires ids { AreIds games.now.store.now ids.now }
     requires free { AreFree side (pick games.now.store.now ids.now) }
-    ensures found { IfOk result (λ found. MatchOption found
-        (IsDone side games.now.store.now (beside games.now) ids.now)
-        (λ v. IsSmaller side games.now.store.now (beside games.now) ids.now v.items)) }
+    requires place { place < length ids.now }
+    requires reversal { IsReversal side games.now.store.now (beside games.now)
+        (slice_index ids.now place) answer }
+    ensures smaller { IfOk result (λ v. IsSmaller side games.now.store.now
+        (beside games.now) ids.now v.items) }
+    ensures known { IsKnown games.now (recalled memo.new) }
+{
+    let mut all = Ids::new(alloc);
+    put_replaced(games.store, side, ids, place, answer, &mut all)?;
+    // None of the others covers another, so the new ones alone are compared with all.
+    let (free, more) = all.split_at(ids.len() - 1);
+    best_in_order(alloc, memo, games, side, free, more)
+}
+
+/// Bypasses one reversible option of the side's, of which none is dominated, and drops the dominated ones, where there is a
+/// reversible one. The answer is whether there was one.
+pub(crate) fn bypass(
+    alloc: Global,
+    memo: &mut Comparisons,
+    games: &Games<'_>,
+    side: Side,
+    ids: &mut Ids,
+) -> Result<bool, AllocError>
+    requires known { IsKnown games.now (recalled memo.old) }
+    requires form { HasForm games.now }
+    requires ids { AreIds games.now.store.now ids.old.items }
+    requires free { AreFree side (pick games.now.store.now ids.old.items) }
+    ensures smaller { IfOk result (λ more. OnTrue more (IsSmaller side games.now.store.now
+        (beside games.now) ids.old.items ids.new.items)) }
+    ensures done { IfOk result (λ more. OnFalse more (IsDone side games.now.store.now
+        (beside games.now) ids.old.items × (ids.new.items ≡ ids.old.items))) }
     ensures known { IsKnown games.now (recalled memo.new) }
 {
     match reversible(alloc, memo, games, side, ids)? {
         Some((place, answer)) => {
-            let all = replaced(alloc, games.store, side, ids, place, answer)?;
-            // None of the others covers another, so the new ones alone are compared with all.
-            let (free, more) = all.split_at(ids.len() - 1);
-            Ok(Some(best_in_order(alloc, memo, games, side, free, more)?))
+            let best = bypassed(alloc, memo, games, side, ids, place, answer)?;
+            put(ids, best);
+            Ok(true)
         }
-        None => Ok(None),
+        None => Ok(false),
     }
 }

@@ -3,7 +3,7 @@ use Rattle.std.proofs.lemmas.List.{take_more}
 use Rattle.std.proofs.lemmas.Bool.{both_ways}
 use Rattle.game_canon.specs.inner.Sides.{IsWithout}
 use Rattle.game_canon.proofs.SideLaws.{without-skip, without-push}
-use Rattle.game_canon.proofs.domination.without_covered.Goals as goal
+use Rattle.game_canon.proofs.domination.put_uncovered.Goals as goal
 
 pub loop-id-preserved-then-branch : goal.loop-id-preserved-then-branch
 loop-id-preserved-then-branch c = record {
