@@ -1,10 +1,11 @@
 //! The position at the end of a main line.
 
-ghost use Rattle.std.specs.Prelude.{false, map, sum_by, get_or, [], ◌≡◌, ◌≤◌, ◌<◌, ◌+◌, ◌-◌, ◌⊎◌, ◌^◌, ◌*◌, true, length, take, IfSome, IfNone, IfOk, codes};
+ghost use Rattle.std.specs.Prelude.{false, map, sum_by, get_or, [], ◌≡◌, ◌≤◌, ◌<◌, ◌+◌, ◌-◌, ◌⊎◌, ◌^◌, ◌*◌, true, length, take, Some, Err, IfSome, IfNone, IfOk, IfErr, codes};
 ghost use Rattle.go_grid.specs.Board.{DeclaresNothing, IsClosedOff};
 ghost use Rattle.std.specs.Char.{is_ascii_digit};
 ghost use Rattle.std.specs.Option.{option_map};
 ghost use Rattle.sgf_tree.specs.Reading.{property_text, node_text, line_text};
+ghost use Rattle.sgf_tree.specs.declared.tree.Tree.{Tree};
 ghost use Rattle.sgf_go.specs.Reading.{extent};
 ghost use Rattle.sgf_go.specs.Komi.{IsInRange};
 ghost use Rattle.sgf_go.specs.Position.{HasFewPrisoners, IsFit};
@@ -230,11 +231,41 @@ pub fn size_of_board(tree: &Tree) -> Option<Size>
     find_size(root(&tree.line))
 }
 
+/// What node 0 tells: the size of the board, and the komi in half-points.
+#[derive(Clone, Copy)]
+struct Header {
+    size: Size,
+    komi: i64,
+}
+
+/// What node 0 tells, or the first thing that is wrong with it: GM, SZ and KM in this order.
+fn read_header(settings: &Settings, first: &[Property]) -> Result<Header, GoError>
+    requires { IfSome settings.now.komi IsInRange }
+    ensures header { IfOk result (λ h. (is_go (value_of (codes "GM")
+        (map property_text first.now)) ≡ true)
+        × Says (IsBoardSize (value_of (codes "SZ") (map property_text first.now)))
+        (Some (extent h.size))
+        × Says (IsKomiFor settings.now.komi (value_of (codes "KM") (map property_text first.now)))
+        (Some h.komi) × IsInRange h.komi) }
+    ensures fault { IfErr result (λ error. (tree : Tree) → root (line_text tree)
+        ≡ map property_text first.now → AnswersPosition tree settings.now (Err error)) }
+{
+    if !is_go_game(first) {
+        return Err(GoError::Fault(SetupFault::WrongGame));
+    }
+    let Some(size) = find_size(first) else {
+        return Err(GoError::Fault(SetupFault::BadSize));
+    };
+    let Some(komi) = find_komi(settings.komi, first) else {
+        return Err(GoError::Fault(SetupFault::BadKomi));
+    };
+    Ok(Header { size, komi })
+}
+
 /// The position at the end of the main line of a record (Smart Game Format, FF[4]) under the settings, or the first thing
 /// that is wrong with it: GM, SZ and KM of node 0 in this order, then node by node AB, AW and AE, PL, and the moves, and at
 /// the end the territory that TB and TW of the last node read mark, where the settings ask for it, and a stone without a
 /// liberty. Without the option nothing is declared on its board.
-#[tactic(auto, using(crate::proofs::PositionLemmas::wrong_game, crate::proofs::PositionLemmas::bad_size, crate::proofs::PositionLemmas::bad_komi, crate::proofs::PositionLemmas::line_bad, crate::proofs::PositionLemmas::line_good, crate::proofs::UndeclaredLemmas::line_declares_nothing))]
 pub fn position(alloc: Global, tree: &Tree, settings: &Settings) -> Result<Setup, GoError>
     requires nodes { length tree.now.line.items ≤ MOST_BYTES }
     requires properties { sum_by (λ n. length n.properties.items) tree.now.line.items ≤ MOST_BYTES }
@@ -248,19 +279,10 @@ pub fn position(alloc: Global, tree: &Tree, settings: &Settings) -> Result<Setup
         → DeclaresNothing s.board) }
     ensures komi { IfOk result (λ s. IsInRange s.komi_halves) }
 {
-    let first = root(&tree.line);
-    if !is_go_game(first) {
-        return Err(GoError::Fault(SetupFault::WrongGame));
-    }
-    let Some(size) = find_size(first) else {
-        return Err(GoError::Fault(SetupFault::BadSize));
-    };
-    let Some(komi) = find_komi(settings.komi, first) else {
-        return Err(GoError::Fault(SetupFault::BadKomi));
-    };
-    let mut replay = begin(alloc, size)?;
+    let header = read_header(settings, root(&tree.line))?;
+    let mut replay = begin(alloc, header.size)?;
     match replay.read_line(settings.after, settings.turn, &tree.line) {
-        Ok(()) => finish_line(replay, settings, &tree.line, komi),
+        Ok(()) => finish_line(replay, settings, &tree.line, header.komi),
         Err(fault) => Err(GoError::Fault(fault)),
     }
 }
