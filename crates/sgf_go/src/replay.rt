@@ -261,7 +261,7 @@ impl Replay {
     }
 
     /// The nodes of a line, up to the first move after so many.
-    #[tactic(auto, using(crate::proofs::PartLemmas::line_step, crate::proofs::PartLemmas::line_fault, crate::proofs::PartLemmas::line_stops, crate::proofs::PartLemmas::line_ends, std::proofs::lemmas::List::Sums::sum_by_more, std::proofs::lemmas::List::Sums::sum_by_more_le))]
+    #[tactic(auto, using(std::proofs::lemmas::List::Sums::sum_by_more_le))]
     pub(crate) fn read_line(
         &mut self,
         after: Option<u32>,

@@ -1,4 +1,6 @@
-use Rattle.std.proofs.Common.{◌∙◌, ap, arith, subst, sym, Ok}
+use Rattle.std.proofs.Common.{◌∙◌, ap, arith, refl, subst, sym, Ok, Err}
+use Rattle.go_play.specs.Place.{PlacesStone}
+use Rattle.go_play.specs.declared.placements.PlaceError.TheVariants.{Occupied, Suicide}
 use Rattle.sgf_go.specs.Setup.{Counts, moved}
 use Rattle.sgf_go.proofs.PartLemmas.{counts_move}
 use Rattle.sgf_go.proofs.replay.Replay.put_stone.Goals as goal
@@ -9,3 +11,9 @@ returns-in-Ok-clause-follows c = (c.place.new.board, Ok c.in-Ok.taken, c.in-Ok.e
 pub returns-in-Ok-clause-counts : goal.returns-in-Ok-clause-counts
 returns-in-Ok-clause-counts c = subst Counts (sym (c.count_move.ensures ∙ ap (moved c.args.colour) c.take.ensures))
     (counts_move c.args.colour c.in-Ok.taken c.args.self.now c.args.self.now.board c.place.new.board c.requires.counts (omega (arith, c.size-size.ensures.most, c.size-size.ensures.grid.full)) (c.in-Ok.ensures {u = tt}).1)
+
+pub returns-in-Err-Occupied-clause-follows : goal.returns-in-Err-Occupied-clause-follows
+returns-in-Err-Occupied-clause-follows c = (c.place.new.board, Err Occupied, subst (λ e. PlacesStone c.args.self.now.board c.args.point c.args.colour c.place.new.board (Err e)) c.in-Err-Occupied.field-0-is (c.in-Err-Occupied.ensures {u = tt}), refl)
+
+pub returns-in-Err-Suicide-clause-follows : goal.returns-in-Err-Suicide-clause-follows
+returns-in-Err-Suicide-clause-follows c = (c.place.new.board, Err Suicide, subst (λ e. PlacesStone c.args.self.now.board c.args.point c.args.colour c.place.new.board (Err e)) c.in-Err-Suicide.field-0-is (c.in-Err-Suicide.ensures {u = tt}), refl)
