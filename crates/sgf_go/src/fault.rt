@@ -10,7 +10,7 @@ use std::fmt;
 use thiserror::Error;
 
 /// What is wrong with a record. The numbers are those of nodes of the main line, counted from 0.
-#[derive(Clone, Copy, Debug, PartialEq, Eq, Error)]
+#[derive(Clone, Copy, PartialEq, Eq, Error)]
 pub enum SetupFault {
     /// GM is there and isn't `1`.
     #[error("wrong game")]
@@ -40,6 +40,13 @@ pub enum SetupFault {
     /// At the end, the lowest stone whose chain has no liberty.
     #[error(fmt = no_liberty)]
     NoLiberty(Point),
+}
+
+// As the message: what a derive writes is dearer to prove.
+impl fmt::Debug for SetupFault {
+    fn fmt<W: fmt::Write>(&self, f: &mut fmt::Formatter<W>) -> fmt::Result {
+        fmt::Display::fmt(self, f)
+    }
 }
 
 // Each message with a number is a function of its own, which is far cheaper to prove than one in all.
@@ -81,12 +88,18 @@ pub enum FileFault {
 }
 
 /// Why no position was given.
-#[derive(Clone, Copy, Debug, PartialEq, Eq, Error)]
+#[derive(Clone, Copy, PartialEq, Eq, Error)]
 pub enum GoError {
     #[error(transparent)]
     Fault(SetupFault),
     #[error(transparent)]
     Memory(AllocError),
+}
+
+impl fmt::Debug for GoError {
+    fn fmt<W: fmt::Write>(&self, f: &mut fmt::Formatter<W>) -> fmt::Result {
+        fmt::Display::fmt(self, f)
+    }
 }
 
 impl From<AllocError> for GoError {

@@ -6,7 +6,7 @@ use go_grid::{Board, Colour};
 pub const MOST_PRISONERS: u32 = 999_999;
 
 /// What a caller sets beside the record: at most so many prisoners, and a komi from -1,999,999 to 1,999,999 half-points.
-#[derive(Clone, Copy, Debug, PartialEq, Eq)]
+#[derive(Clone, Copy, PartialEq, Eq)]
 pub struct Settings {
     /// The line ends before the first move that comes after so many moves and passes.
     pub after: Option<u32>,
