@@ -35,6 +35,11 @@ pub sets_fault : (node : ℕ) (c : Cell) (text : List ℕ) (s : Replay) → text
 sets_fault node c [] s n e = absurd (n refl)
 sets_fault node c (b ∷ bs) s n e = (None, e, refl)
 
+-- stones that are taken count as no move
+pub taken_played : (c : Colour) (n : ℕ) (s : Replay) → (with_taken c n s).played ≡ s.played
+taken_played colour.Black n s = refl
+taken_played colour.White n s = refl
+
 pub counts_move : (c : Colour) (n : ℕ) (s : Replay) (g h : Board) → Counts s → length g.cells ≤ 625 → IsNumberTaken g h n → Counts (moved c (with_taken c n (record s { board = h })))
 counts_move colour.Black n s g h k l t =
     let few = count_by-le-length is_stone g.cells in

@@ -1,8 +1,8 @@
-use Rattle.std.proofs.Common.{◌∙◌, ap, arith, refl, subst, sym, Ok, Err}
+use Rattle.std.proofs.Common.{◌∙◌, ◌≡◌, ◌+◌, ap, arith, refl, subst, sym, Ok, Err}
 use Rattle.go_play.specs.Place.{PlacesStone}
 use Rattle.go_play.specs.declared.placements.PlaceError.TheVariants.{Occupied, Suicide}
 use Rattle.sgf_go.specs.Setup.{Counts, moved}
-use Rattle.sgf_go.proofs.PartLemmas.{counts_move}
+use Rattle.sgf_go.proofs.PartLemmas.{counts_move, taken_played}
 use Rattle.sgf_go.proofs.replay.Replay.put_stone.Goals as goal
 
 pub returns-in-Ok-clause-follows : goal.returns-in-Ok-clause-follows
@@ -17,3 +17,14 @@ returns-in-Err-Occupied-clause-follows c = (c.place.new.board, Err Occupied, sub
 
 pub returns-in-Err-Suicide-clause-follows : goal.returns-in-Err-Suicide-clause-follows
 returns-in-Err-Suicide-clause-follows c = (c.place.new.board, Err Suicide, subst (λ e. PlacesStone c.args.self.now.board c.args.point c.args.colour c.place.new.board (Err e)) c.in-Err-Suicide.field-0-is (c.in-Err-Suicide.ensures {u = tt}), refl)
+
+pub count_move-requires : goal.count_move-requires
+count_move-requires c =
+    let kept : c.take.new.self.played ≡ c.args.self.now.played = ap (λ s. s.played) c.take.ensures ∙ taken_played c.args.colour c.in-Ok.taken _ in
+    omega (arith, kept, c.requires.few)
+
+pub returns-in-Ok-clause-played : goal.returns-in-Ok-clause-played
+returns-in-Ok-clause-played c =
+    let kept : c.take.new.self.played ≡ c.args.self.now.played = ap (λ s. s.played) c.take.ensures ∙ taken_played c.args.colour c.in-Ok.taken _ in
+    let more : c.count_move.new.self.played ≡ c.take.new.self.played + 1 = ap (λ s. s.played) c.count_move.ensures in
+    omega (arith, kept, more)
