@@ -21,4 +21,5 @@ pub mod SumQuestionLaws
 pub mod SumCancellingLaws
 pub mod WaitingLaws
 pub mod AnswerLaws
+pub mod GroupLaws
 mod TableLaws

@@ -1,5 +1,6 @@
 pub mod Comparisons
 pub mod FormComparisons
+pub mod Groups
 pub mod Orders
 pub mod Outcomes
 pub mod Followers

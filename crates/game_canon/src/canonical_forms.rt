@@ -1,6 +1,6 @@
 //! The canonical form of a form.
 
-ghost use Rattle.std.specs.Prelude.{ℕ, ◌≡◌, ◌<◌, ◌+◌, ◌^◌, length, IfOk, IfErr};
+ghost use Rattle.std.specs.Prelude.{ℕ, ◌≡◌, ◌<◌, ◌+◌, ◌^◌, length, IfOk, IfErr, IfSome};
 ghost use Rattle.short_games.specs.Number.{IsNumber};
 ghost use Rattle.short_games.specs.Threshold.{IsFloor, IsCeiling};
 ghost use Rattle.short_games.specs.Tree.{tree_at};
@@ -8,11 +8,13 @@ ghost use Rattle.short_games.specs.TextOrder.{IsCanonicalTree};
 ghost use Rattle.game_store.specs.Meaning.{form, listed, AreIds, Extends, IsAscending, IsIdOf};
 ghost use Rattle.short_games.specs.Parts.{HasMoreParts};
 ghost use Rattle.game_canon.specs.FormComparisons.{AreFormComparisonsRight};
+ghost use Rattle.game_canon.specs.Groups.{AreGroups};
 ghost use Rattle.game_canon.specs.Outcomes.{IsCanonicalId, AreWithin, AreOptionsWithin, IsPastBounds, IsCause};
 
 use crate::errors::FormError;
 use crate::followers::has_more_parts;
 use crate::form_comparisons::FormComparisons;
+use crate::groups::Cuts;
 use crate::reduction::reduced;
 use crate::thresholds::{Value, number_value};
 use dyadic_num::EXPONENT;
@@ -54,6 +56,7 @@ fn reduced_form(
     comparisons: &mut FormComparisons,
     left: &[GameId],
     right: &[GameId],
+    cuts: Option<Cuts>,
     floor: Bound,
     ceiling: Bound,
     parts_limit: u32,
@@ -61,6 +64,8 @@ fn reduced_form(
     requires comparisons { AreFormComparisonsRight store.old comparisons.old }
     requires left { AreIds store.old left.now }
     requires right { AreIds store.old right.now }
+    requires left_groups { IfSome cuts (λ c. AreGroups store.old left.now c.left) }
+    requires right_groups { IfSome cuts (λ c. AreGroups store.old right.now c.right) }
     requires no_number { IsNumber (listed store.old left.now right.now) → ⊥ }
     requires floor { IsFloor EXPONENT (listed store.old left.now right.now) floor }
     requires ceiling { IsCeiling EXPONENT (listed store.old left.now right.now) ceiling }
@@ -77,9 +82,53 @@ fn reduced_form(
 {
     comparisons.limit(alloc);
     let known = &mut comparisons.known;
-    let lists = reduced(alloc, store, known, left, right, floor, ceiling)?;
+    let lists = reduced(alloc, store, known, left, right, cuts, floor, ceiling)?;
     let _count = store.len();
     entered(alloc, store, &lists.left, &lists.right, parts_limit)
+}
+
+/// The canonical form of the form with these options, which come in two groups a side where cuts are given.
+fn canonical_by(
+    alloc: Global,
+    store: &mut Store,
+    comparisons: &mut FormComparisons,
+    left: &[GameId],
+    right: &[GameId],
+    cuts: Option<Cuts>,
+    parts_limit: u32,
+) -> Result<GameId, FormError>
+    requires comparisons { AreFormComparisonsRight store.old comparisons.old }
+    requires left { AreIds store.old left.now }
+    requires right { AreIds store.old right.now }
+    requires left_groups { IfSome cuts (λ c. AreGroups store.old left.now c.left) }
+    requires right_groups { IfSome cuts (λ c. AreGroups store.old right.now c.right) }
+    ensures value { IfOk result (λ id. IsCanonicalId store.new
+        (listed store.old left.now right.now) id) }
+    ensures bounds { IfOk result (λ id. IsPastBounds (listed store.old left.now right.now) → ⊥) }
+    ensures parts { IfOk result (λ id. HasMoreParts (tree_at store.new id) parts_limit → ⊥) }
+    ensures refusal { IfErr result (λ error. IsCause
+        (listed store.old left.now right.now) parts_limit error) }
+    ensures sizes { IfOk result (λ id. (b : ℕ)
+        → AreOptionsWithin b (listed store.old left.now right.now)
+        → AreWithin (b + 2 ^ EXPONENT) (tree_at store.new id)) }
+    ensures comparisons { AreFormComparisonsRight store.new comparisons.new }
+    ensures kept { Extends store.old store.new }
+{
+    match number_value(store, left, right) {
+        Value::Number(x) => Ok(store.number(x)?),
+        Value::PastBounds => Err(FormError::Bounds),
+        Value::NoNumber { floor, ceiling } => reduced_form(
+            alloc,
+            store,
+            comparisons,
+            left,
+            right,
+            cuts,
+            floor,
+            ceiling,
+            parts_limit,
+        ),
+    }
 }
 
 /// The canonical form of the form with these options, as `canonical` makes it, where comparisons are remembered from form
@@ -107,20 +156,38 @@ pub fn canonical_with(
     ensures comparisons { AreFormComparisonsRight store.new comparisons.new }
     ensures kept { Extends store.old store.new }
 {
-    match number_value(store, left, right) {
-        Value::Number(x) => Ok(store.number(x)?),
-        Value::PastBounds => Err(FormError::Bounds),
-        Value::NoNumber { floor, ceiling } => reduced_form(
-            alloc,
-            store,
-            comparisons,
-            left,
-            right,
-            floor,
-            ceiling,
-            parts_limit,
-        ),
-    }
+    canonical_by(alloc, store, comparisons, left, right, None, parts_limit)
+}
+
+/// The same where so many of the first options of each side, and the others, are groups in which no game is at most another, so that
+/// only games of two groups are compared: the options of a sum, by the game that was moved in.
+pub fn canonical_of_groups(
+    alloc: Global,
+    store: &mut Store,
+    comparisons: &mut FormComparisons,
+    left: &[GameId],
+    right: &[GameId],
+    cuts: Cuts,
+    parts_limit: u32,
+) -> Result<GameId, FormError>
+    requires comparisons { AreFormComparisonsRight store.old comparisons.old }
+    requires left { AreIds store.old left.now }
+    requires right { AreIds store.old right.now }
+    requires left_groups { AreGroups store.old left.now cuts.left }
+    requires right_groups { AreGroups store.old right.now cuts.right }
+    ensures value { IfOk result (λ id. IsCanonicalId store.new
+        (listed store.old left.now right.now) id) }
+    ensures bounds { IfOk result (λ id. IsPastBounds (listed store.old left.now right.now) → ⊥) }
+    ensures parts { IfOk result (λ id. HasMoreParts (tree_at store.new id) parts_limit → ⊥) }
+    ensures refusal { IfErr result (λ error. IsCause
+        (listed store.old left.now right.now) parts_limit error) }
+    ensures sizes { IfOk result (λ id. (b : ℕ)
+        → AreOptionsWithin b (listed store.old left.now right.now)
+        → AreWithin (b + 2 ^ EXPONENT) (tree_at store.new id)) }
+    ensures comparisons { AreFormComparisonsRight store.new comparisons.new }
+    ensures kept { Extends store.old store.new }
+{
+    canonical_by(alloc, store, comparisons, left, right, Some(cuts), parts_limit)
 }
 
 /// The canonical form of the form with these options (Conway). `Bounds` where its value is a number past the bounds of a

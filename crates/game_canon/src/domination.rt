@@ -15,7 +15,7 @@ use game_store::GameId;
 use std::alloc::{AllocError, Global};
 
 /// Whether none of the games covers that of `id`.
-fn none_covers(
+pub(crate) fn none_covers(
     alloc: Global,
     memo: &mut Comparisons,
     games: &Games<'_>,

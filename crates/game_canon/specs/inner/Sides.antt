@@ -50,6 +50,13 @@ pub record IsWithout (s : Side) (Ts : List Tree) (is : List ℕ) (top : ℕ) (vs
   pub rest : (X : Tree) → Has (pick Ts is) X → Covers s X (tree_at Ts top) ⊎ Has (pick Ts vs) X
   pub smaller : sizes (pick Ts vs) ≤ sizes (pick Ts is)
 
+-- the ids of the first list but for those whose games a game of the others covers
+pub record IsUncovered (s : Side) (Ts : List Tree) (is os vs : List ℕ) : Type 0 where
+  pub ids : AreIds Ts vs
+  pub among : (X : Tree) → Has (pick Ts vs) X → Has (pick Ts is) X × ((Y : Tree) → Has (pick Ts os) Y → Covers s X Y → ⊥)
+  pub rest : (X : Tree) → Has (pick Ts is) X → ((Y : Tree) × Has (pick Ts os) Y × Covers s X Y) ⊎ Has (pick Ts vs) X
+  pub smaller : sizes (pick Ts vs) ≤ sizes (pick Ts is)
+
 -- the best of a list of ids: none of them covers another, and each id of the list is covered by one of them
 pub record AreBest (s : Side) (Ts : List Tree) (is bs : List ℕ) : Type 0 where
   pub ids : AreIds Ts bs
