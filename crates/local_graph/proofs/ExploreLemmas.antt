@@ -1,5 +1,5 @@
 -- Exploring the reachable positions.
-use Rattle.std.proofs.Common.{◌≡◌, ◌≢◌, ℕ, ◌+◌, ◌^◌, ◌<◌, ◌≤◌, inl, inr, suc, zero, arith, refl, sym, ap, ◌∙◌, List, [], ◌∷◌, ◌++◌, map, length, get_or, set, subst, length-append, Ok, Err}
+use Rattle.std.proofs.Common.{◌≡◌, ◌≢◌, ℕ, ◌+◌, ◌^◌, ◌<◌, ◌≤◌, inl, inr, suc, zero, arith, refl, sym, ap, ◌∙◌, List, [], ◌∷◌, ◌++◌, map, length, get_or, set, subst, length-append, Result, Ok, Err}
 use Rattle.std.specs.List.{AllPairs, Contains}
 use Rattle.std.proofs.lemmas.Bool.{cases_eq, cases_lt}
 use Rattle.std.proofs.lemmas.List.{get_or_append_left, get_or-set_same, get_or-set_other, length-set, get_or_default, length-map, get_or-map}
@@ -18,26 +18,11 @@ use Rattle.local_graph.specs.declared.graph.Edge.{Edge}
 use Rattle.local_graph.specs.LocalGraph.{Plays, IsReachable, AreEdges, HasMoves, IsGraph, MoreThan}
 use Rattle.go_grid.proofs.PlayLemmas.{long_after}
 use Rattle.local_graph.specs.inner.PlaceTable.{IsNumbered}
+use Rattle.local_graph.specs.inner.Exploring.{AreReachable, Exploring, EdgesFrom}
 use Rattle.local_graph.specs.inner.Found.{Grows, AddsPositions, EdgesFor, Explored, Placed, AreAwaited}
 use Rattle.local_graph.proofs.FoundLemmas.{edge_more}
 use Rattle.local_graph.proofs.FiniteLemmas.{few_positions}
 use Rattle.local_graph.proofs.PlayLemmas.{plays_long, plays_more, one_after}
-
--- each number is that of a reachable position
-abbrev pub AreReachable : List Touch → List Cell → List ℕ → Type 0
-AreReachable touch opening ns = (n : ℕ) → Contains ns n → (cells : List Cell) × IsReachable touch opening cells × (n ≡ pack cells)
-
--- the positions so far, each with its edges or waiting
-pub record Exploring (touch : List Touch) (opening : List Cell) (limit : ℕ) (positions : List ℕ) (edges : List (List Edge)) (waiting : List ℕ) : Type 0 where
-  pub some : 0 < length positions
-  pub first : get_or positions 0 0 ≡ pack opening
-  pub once : AllPairs (λ a b. a ≢ b) positions
-  pub few : length positions ≤ limit
-  pub reachable : AreReachable touch opening positions
-  pub beside : length edges ≡ length positions
-  pub inside : (i : ℕ) → Contains waiting i → i < length positions
-  pub moves : (i : ℕ) (cells : List Cell) → i < length positions → ¬ Contains waiting i → IsReachable touch opening cells
-      → get_or positions i 0 ≡ pack cells → HasMoves touch cells positions (get_or edges i [])
 
 contains_nil : (n : ℕ) → Contains [] n → ⊥
 contains_nil n (k, lt, at) = omega arith
@@ -310,12 +295,24 @@ pub last_waiting : (touch : List Touch) (opening : List Cell) (limit : ℕ) (pos
     (i : ℕ) → Exploring touch opening limit positions all waiting → waiting ≡ front ++ i ∷ [] → i < length positions
 last_waiting touch opening limit positions all waiting front i s ends = s.inside i (subst (λ l. Contains l i) (sym ends) (Contains-push front i))
 
+-- the edges of listed moves
+pub edges_from : (touch : List Touch) (cells : List Cell) (before : List ℕ) (limit : ℕ) (after : List ℕ) (moves : List LocalMove) (es : List Edge)
+    (r : Result (Unit {0}) GraphError) → ListsLocalMoves touch cells moves → EdgesFor before moves limit after es r
+    → EdgesFrom touch cells before limit after es r
+edges_from touch cells before limit after moves es (Ok done) lists x = (moves, lists, x)
+edges_from touch cells before limit after moves es (Err Positions) lists x = (moves, lists, x)
+edges_from touch cells before limit after moves es (Err (Points n)) lists x = absurd x
+edges_from touch cells before limit after moves es (Err (Cycle ms back)) lists x = absurd x
+edges_from touch cells before limit after moves es (Err (Memory e)) lists x = tt
+
 pub explored_fails : (touch : List Touch) (opening : List Cell) (limit : ℕ) (positions after : List ℕ)
-    (i n : ℕ) (moves : List LocalMove) (es : List Edge) (e : GraphError) → AreReachable touch opening positions
-    → (w : IsNext touch opening positions i n) → ListsLocalMoves touch w.cells moves
-    → EdgesFor positions moves limit after es (Err e) → Explored touch opening limit after (Err e)
-explored_fails touch opening limit positions after i n moves es e s w lists x =
-    explore_err touch opening limit positions after w.cells moves es e s w.reach lists x
+    (i n : ℕ) (es : List Edge) (e : GraphError) → AreReachable touch opening positions
+    → (w : IsNext touch opening positions i n) → EdgesFrom touch w.cells positions limit after es (Err e) → Explored touch opening limit after (Err e)
+explored_fails touch opening limit positions after i n es Positions s w (moves, lists, x) =
+    explore_err touch opening limit positions after w.cells moves es Positions s w.reach lists x
+explored_fails touch opening limit positions after i n es (Points p) s w x = absurd x
+explored_fails touch opening limit positions after i n es (Cycle ms back) s w x = absurd x
+explored_fails touch opening limit positions after i n es (Memory e) s w x = tt
 
 pub explored_all : (touch : List Touch) (opening : List Cell) (limit : ℕ) (positions : List ℕ) (all result : List (List Edge))
     (waiting : List ℕ) → Exploring touch opening limit positions all waiting → length waiting ≡ 0 → result ≡ all

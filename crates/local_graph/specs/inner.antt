@@ -1,5 +1,6 @@
 -- What loops and private calls keep; no public clause cites it.
 pub mod Found
+pub mod Exploring
 pub mod PlaceTable
 pub mod Searching
 pub mod Graph

@@ -3,7 +3,12 @@
 ghost use Rattle.std.specs.Prelude.{ℕ, ◌≡◌, ◌≢◌, ◌+◌, ◌*◌, ◌^◌, ◌<◌, ◌≤◌, List, [], ◌++◌, length, drop, Contains, slice_index, IfOk, OnOk, IfSome, IfNone, MatchResult, alloc_error};
 ghost use Rattle.local_graph.specs.declared.graph_build.GraphError.TheVariants.{Memory};
 ghost use Rattle.std.specs.List.{AllPairs};
+ghost use Rattle.go_grid.specs.declared.grid.Cell.{Cell};
+ghost use Rattle.go_grid.specs.declared.region.Touch.{Touch};
+ghost use Rattle.local_play.specs.Links.{IsTable};
+ghost use Rattle.local_play.specs.Packed.{pack};
 ghost use Rattle.local_graph.specs.Built.{Built};
+ghost use Rattle.local_graph.specs.inner.Exploring.{IsExploring, Begun, Ended, IsPositionOn, EdgesFrom};
 ghost use Rattle.local_graph.specs.inner.Graph.{lists_of, AreWithin};
 ghost use Rattle.local_graph.specs.inner.Found.{Placed, EdgesFor, edge_of, Explored, AreAwaited};
 ghost use Rattle.local_graph.specs.inner.PlaceTable.{threes, IsPlaceTable, IsNumbered, ArePowers, AddsDigit};
@@ -168,16 +173,114 @@ fn await_new(
     Ok(())
 }
 
+/// Puts the edges of a position behind those that are there. Makes the list that of its moves.
+#[inline(always)]
+fn list_position<L: Ledger>(
+    alloc: Global,
+    table: &mut PlaceTable,
+    links: &Links,
+    weights: &[u64; MOST_PLACES],
+    position: u64,
+    limit: u32,
+    steps: &mut Steps<L>,
+    moves: &mut Vec<LocalMove>,
+    edges: &mut Vec<Edge>,
+) -> Result<(), GraphError>
+    requires table { IsPlaceTable table.old }
+    requires once { AllPairs (λ a b. a ≢ b) table.old.positions.items }
+    requires position { IsPositionOn links.now table.old.numbers position }
+    requires powers { ArePowers weights.now }
+    requires few { length table.old.positions.items ≤ limit }
+    ensures edges { (touch : List Touch) (cells : List Cell) → IsTable touch links.now
+        → length cells ≡ length touch → position ≡ pack cells
+        → EdgesFrom touch cells table.old.positions.items limit table.new.positions.items
+        (drop (length edges.old.items) edges.new.items) result }
+    ensures behind { OnOk result (edges.new.items
+        ≡ edges.old.items ++ drop (length edges.old.items) edges.new.items) }
+    ensures table { OnOk result (IsPlaceTable table.new) }
+    ensures numbers { OnOk result (table.new.numbers ≡ table.old.numbers) }
+    ensures step { steps.new ≡ steps.old + 1 }
+{
+    list_moves(links, Local(position), steps, moves)?;
+    list_edges(alloc, table, weights, Local(position), moves, limit, edges)
+}
+
 /// The edges that were found, the span of them that is each position's, and the places that wait for their edges.
 #[derive(Drop)]
-struct Exploration {
+pub(crate) struct Exploration {
     edges: Vec<Edge>,
     spans: Vec<Span>,
     waiting: Vec<usize>,
 }
 
-/// All positions that are reachable, and their moves. The position that was found last comes next, so that what stands
-/// side by side is used one after the other by the passes to come.
+/// The opening alone, which waits for its edges.
+fn begin(
+    alloc: Global,
+    region: &Region,
+    limit: u32,
+    table: &mut PlaceTable,
+) -> Result<Exploration, GraphError>
+    requires points { length region.now.points ≤ 32 }
+    requires table { IsPlaceTable table.old }
+    requires none { table.old.positions.items ≡ [] }
+    requires numbers { table.old.numbers ≡ 3 ^ length region.now.points }
+    ensures { Begun region.now.touch region.now.cells limit (length region.now.points) table.new result }
+{
+    new_place(alloc, table, start(region), limit)?;
+    let mut found = Exploration {
+        edges: Vec::new(alloc),
+        spans: Vec::new(alloc),
+        waiting: Vec::new(alloc),
+    };
+    await_new(&mut found.spans, &mut found.waiting, table.positions.len())?;
+    Ok(found)
+}
+
+/// Explores the positions that wait, and all that moves lead to from there. The position that was found last comes next, so
+/// that what stands side by side is used one after the other by the passes to come.
+fn explore_waiting<L: Ledger>(
+    alloc: Global,
+    region: &Region,
+    limit: u32,
+    table: &mut PlaceTable,
+    steps: &mut Steps<L>,
+    found: &mut Exploration,
+) -> Result<(), GraphError>
+    requires points { length region.now.points ≤ 32 }
+    requires under_way { IsExploring region.now.touch region.now.cells limit
+        (length region.now.points) table.old found.old }
+    requires all { length found.old.waiting.items ≡ length table.old.positions.items }
+    ensures ended { Ended region.now.touch region.now.cells limit table.new.positions.items
+        found.new result }
+    ensures limited { steps.new ≤ steps.old + limit }
+    ensures finite { steps.new ≤ steps.old + 3 ^ length region.now.points }
+    ensures exact { OnOk result (steps.new ≡ steps.old + length table.new.positions.items) }
+{
+    let links = Links::of(region);
+    let weights = powers();
+    let mut moves = Vec::new(alloc);
+    'exploring: while let Some(place) = found.waiting.pop() {
+        let position = table.positions[place];
+        let first = found.edges.len();
+        list_position(
+            alloc,
+            table,
+            &links,
+            &weights,
+            position,
+            limit,
+            steps,
+            &mut moves,
+            &mut found.edges,
+        )?;
+        let end = found.edges.len();
+        found.spans[place] = Span { start: first, end };
+        await_new(&mut found.spans, &mut found.waiting, table.positions.len())?;
+    }
+    Ok(())
+}
+
+/// All positions that are reachable, and their moves.
 pub(crate) fn explore<L: Ledger>(
     alloc: Global,
     region: &Region,
@@ -196,34 +299,8 @@ pub(crate) fn explore<L: Ledger>(
     ensures exact { IfOk result
         (λ _. steps.new ≡ steps.old + length table.new.positions.items) }
 {
-    let mut found = Exploration {
-        edges: Vec::new(alloc),
-        spans: Vec::new(alloc),
-        waiting: Vec::new(alloc),
-    };
-    new_place(alloc, table, start(region), limit)?;
-    await_new(&mut found.spans, &mut found.waiting, table.positions.len())?;
-    let links = Links::of(region);
-    let weights = powers();
-    let mut moves = Vec::new(alloc);
-    'exploring: while let Some(place) = found.waiting.pop() {
-        let position = table.positions[place];
-        list_moves(&links, Local(position), steps, &mut moves)?;
-        let first = found.edges.len();
-        let from = Local(position);
-        list_edges(
-            alloc,
-            table,
-            &weights,
-            from,
-            &moves,
-            limit,
-            &mut found.edges,
-        )?;
-        let end = found.edges.len();
-        found.spans[place] = Span { start: first, end };
-        await_new(&mut found.spans, &mut found.waiting, table.positions.len())?;
-    }
+    let mut found = begin(alloc, region, limit, table)?;
+    explore_waiting(alloc, region, limit, table, steps, &mut found)?;
     Ok(EdgeLists::of(found.edges, found.spans))
 }
 

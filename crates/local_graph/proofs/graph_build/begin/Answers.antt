@@ -1,0 +1,36 @@
+use Rattle.std.proofs.Common.{arith, ap, ◌∙◌, ◌≡◌, length}
+use Rattle.std.proofs.lemmas.Result.{err_from_is_err_and}
+use Rattle.local_graph.specs.inner.Graph.{lists_of}
+use Rattle.local_graph.proofs.EdgeListLemmas.{none_within}
+use Rattle.local_graph.proofs.ExploreLemmas.{start_fails, start_found, opening_numbered}
+use Rattle.local_graph.proofs.graph_build.begin.Goals as goal
+
+pub new_place-requires-clause-numbered : goal.new_place-requires-clause-numbered
+new_place-requires-clause-numbered c =
+    opening_numbered c.args.region.now.cells c.args.table.now.numbers (length c.args.region.now.points) c.start.result c.start.ensures.full
+    c.requires.points c.requires.numbers c.start.ensures.packed
+
+pub returns-in_err-new_place : goal.returns-in_err-new_place
+returns-in_err-new_place c =
+    let p = err_from_is_err_and c.from_residual.result c.from_residual.ensures.1 in
+    rw (p.1, p.2)
+    (start_fails _ _ _ _ _ _ _ c.requires.none c.start.ensures.packed c.in_err-new_place.ensures.placed)
+
+pub returns-in_err-await_new : goal.returns-in_err-await_new
+returns-in_err-await_new c = let p = err_from_is_err_and c.from_residual-in_err-await_new.result c.from_residual-in_err-await_new.ensures.1 in rw (p.1, p.2) tt
+
+pub returns : goal.returns
+returns c =
+    let full : c.len.result ≡ length c.new_place.new.table.positions.items = omega (arith, c.len.ensures, c.new_place.new.table.positions.ok) in
+    let edges = c.new.result.items in
+    let awaited = c.in_ok-await_new.ensures.awaited edges in (
+      record {
+        full = c.start.ensures.full;
+        table = c.in_ok-new_place.ensures.table;
+        numbers = c.in_ok-new_place.ensures.numbers ∙ c.requires.numbers;
+        so_far = start_found c.args.region.now.touch c.args.region.now.cells c.args.limit _ _ _ _ _ (lists_of edges c.new-2.result.items) _ _ _
+            c.requires.none c.start.ensures.packed (ap (lists_of edges) c.new-2.ensures.items) c.new-3.ensures.items c.in_ok-new_place.ensures.placed full awaited;
+        within = c.in_ok-await_new.ensures.within (length edges) (none_within (length edges) _ c.new-2.ensures.items);
+      },
+      omega (arith, awaited.many, ap (λ s. length (lists_of edges s)) c.new-2.ensures.items, ap length c.new-3.ensures.items, full),
+    )
