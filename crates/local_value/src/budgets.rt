@@ -9,12 +9,12 @@ ghost use Rattle.game_store.specs.Meaning.{Extends};
 ghost use Rattle.game_canon.specs.Outcomes.{IsCause};
 ghost use Rattle.local_value.specs.declared.budgets.BudgetError.TheVariants.{Form};
 ghost use Rattle.local_value.specs.BudgetValues.{IsReturnGraphOf, AreWithinLimits, IsPastLimits, Valued};
-ghost use Rattle.local_value.specs.inner.Layers.{IsFollowed, AreFollowed, IsLayer, AreLayers, IsBudgetLeft, IsLayerBack, IsRoom, IsUnchanged, IsKept, IsMade};
+ghost use Rattle.local_value.specs.inner.Layers.{IsFollowed, AreFollowed, IsLayer, AreLayers, AreValued, IsBudgetLeft, IsLayerBack, IsRoom, IsUnchanged, IsKept, IsMade};
 ghost use Rattle.local_value.specs.inner.Memo.{IsMemoRight};
 ghost use Rattle.local_value.specs.inner.Valuing.{IsNoted, AreWithinAfter, HasEdges, most_units};
 
 use crate::memo::Memo;
-use crate::steady_values::SteadyValues;
+use crate::steady_values::{SteadyValues, append};
 use crate::values::{Values, value_of};
 use game_canon::FormError;
 use game_store::{GameId, Store};
@@ -275,13 +275,6 @@ fn layer(
     Ok(Values::from(ids))
 }
 
-/// Puts a layer behind the others.
-fn append(layers: &mut Vec<Values>, layer: Values) -> Result<(), AllocError>
-    ensures { OnOk result (layers.new.items ≡ layers.old.items ++ layer ∷ []) }
-{
-    Ok(layers.push(layer)?)
-}
-
 /// Works out one layer more: the values with a budget more.
 fn add_layer(
     alloc: Global,
@@ -332,6 +325,40 @@ fn is_last_repeated(layers: &[Values]) -> bool
     are_same(layers[last - 1].as_slice(), layers[last].as_slice())
 }
 
+/// Works out the layers up to the first that the next one repeats.
+fn add_layers(
+    alloc: Global,
+    graph: &ReturnGraph,
+    owner: Colour,
+    store: &mut Store,
+    memo: &mut Memo,
+    layers: &mut Vec<Values>,
+    most: u8,
+    parts_limit: u32,
+) -> Result<(), BudgetError>
+    requires graph { (r : Region) × IsReturnGraphOf r graph.now }
+    requires few { length graph.now.positions ≤ MOST_POSITIONS }
+    requires none { layers.old.items ≡ [] }
+    requires memo { IsMemoRight store.old parts_limit memo.old }
+    ensures valued { (r : Region) → IsReturnGraphOf r graph.now
+        → AreValued r graph.now owner most parts_limit store.new layers.new.items result }
+    ensures kept { Extends store.old store.new }
+{
+    add_layer(alloc, graph, owner, store, memo, layers, parts_limit)?;
+    if !graph.has_cycle() {
+        return Ok(());
+    }
+    'layers: for budget in 0..u16::from(most) + 1 {
+        add_layer(alloc, graph, owner, store, memo, layers, parts_limit)?;
+        let _count = store.len();
+        if is_last_repeated(layers) {
+            layers.truncate(usize::from(budget) + 1);
+            return Ok(());
+        }
+    }
+    Err(BudgetError::Captures)
+}
+
 /// The values of all positions of a graph with each budget of returning captures for a colour up to the least at which one more
 /// changes nothing. That is at most `most`. `Form` where a value that is needed to tell has more than `parts_limit` parts, or a
 /// number past the bounds of a `Dyadic`; else `Captures` where there is no such budget. Every id of the store keeps its form,
@@ -352,33 +379,17 @@ pub fn value_steady(
 {
     let mut memo = Memo::new(alloc);
     let mut layers = Vec::new(alloc);
-    add_layer(
+    let valued = add_layers(
         alloc,
         graph,
         owner,
         store,
         &mut memo,
         &mut layers,
+        most,
         parts_limit,
-    )?;
-    if !graph.has_cycle() {
-        return Ok(SteadyValues::new(layers));
-    }
-    'layers: for budget in 0..u16::from(most) + 1 {
-        add_layer(
-            alloc,
-            graph,
-            owner,
-            store,
-            &mut memo,
-            &mut layers,
-            parts_limit,
-        )?;
-        let _count = store.len();
-        if is_last_repeated(&layers) {
-            layers.truncate(usize::from(budget) + 1);
-            return Ok(SteadyValues::new(layers));
-        }
-    }
-    Err(BudgetError::Captures)
+    );
+    drop(memo);
+    valued?;
+    Ok(SteadyValues::new(layers))
 }

@@ -81,18 +81,34 @@ fn enter_all(latest: &mut [u32], links: &mut [Link])
 }
 
 /// Makes more slots where there are no more than places.
-fn make_room(alloc: Global, latest: &mut Vec<u32>, links: &mut [Link]) -> Result<(), AllocError>
-    requires few { length links.old < 2 ^ 32 }
-    requires chained { AreChained latest.old.items links.old }
-    ensures chained { AreChained latest.new.items links.new }
+fn make_room(alloc: Global, latest: &mut Vec<u32>, links: &mut Vec<Link>) -> Result<(), AllocError>
+    requires few { length links.old.items < 2 ^ 32 }
+    requires chained { AreChained latest.old.items links.old.items }
+    ensures chained { AreChained latest.new.items links.new.items }
     ensures slots { OnOk result (0 < length latest.new.items) }
-    ensures places { length links.new ≡ length links.old }
+    ensures places { length links.new.items ≡ length links.old.items }
 {
     if links.len() < latest.len() {
         return Ok(());
     }
     *latest = vec![in alloc; 0; FEWEST_SLOTS.max(2 * latest.len())]?;
     enter_all(latest, links);
+    Ok(())
+}
+
+/// Puts a link for one more place behind the others, and the place into the chain of its slot.
+fn add_link(latest: &mut [u32], links: &mut Vec<Link>, hash: u32) -> Result<(), AllocError>
+    requires slots { 0 < length latest.old }
+    requires few { length links.old.items + 1 < 2 ^ 32 }
+    requires chained { AreChained latest.old links.old.items }
+    ensures chained { AreChained latest.new links.new.items }
+    ensures slots { length latest.new ≡ length latest.old }
+    ensures more { OnOk result (length links.new.items ≡ length links.old.items + 1) }
+    ensures same { OnErr result (length links.new.items ≡ length links.old.items) }
+{
+    let place = links.len();
+    links.push(Link { hash, before: 0 })?;
+    enter(latest, links, place);
     Ok(())
 }
 
@@ -139,10 +155,7 @@ impl Chains {
         ensures same { OnErr result (self.new ≡ self.old) }
     {
         make_room(alloc, &mut self.latest, &mut self.links)?;
-        let place = self.links.len();
-        self.links.push(Link { hash, before: 0 })?;
-        enter(&mut self.latest, &mut self.links, place);
-        Ok(())
+        add_link(&mut self.latest, &mut self.links, hash)
     }
 
     /// Forgets all places.

@@ -1,9 +1,10 @@
 //! The values of all positions of a graph with each budget that matters.
 
-ghost use Rattle.std.specs.Prelude.{ℕ, ◌≡◌, ◌+◌, ◌-◌, ◌<◌, length};
+ghost use Rattle.std.specs.Prelude.{ℕ, ◌≡◌, ◌+◌, ◌-◌, ◌<◌, [], ◌∷◌, ◌++◌, length, OnOk};
 ghost use Rattle.local_value.specs.BudgetValues.{layer_with};
 
 use crate::values::Values;
+use std::alloc::AllocError;
 use std::marker::Model;
 
 /// The values of all positions with each budget up to the least at which the region is steady.
@@ -56,4 +57,11 @@ impl SteadyValues {
     {
         self.with(self.budget())
     }
+}
+
+/// Puts a layer behind the others.
+pub(crate) fn append(layers: &mut Vec<Values>, layer: Values) -> Result<(), AllocError>
+    ensures { OnOk result (layers.new.items ≡ layers.old.items ++ layer ∷ []) }
+{
+    Ok(layers.push(layer)?)
 }

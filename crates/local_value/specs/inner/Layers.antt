@@ -1,5 +1,5 @@
 -- Edges as they are followed in one layer, where a list of ids has those of the layer and behind them those of the layer before.
-use Rattle.std.specs.Prelude.{ℕ, ◌+◌, ◌-◌, ◌*◌, ◌^◌, ◌≡◌, ◌<◌, ◌≤◌, ◌⊎◌, List, [], ◌++◌, Bool, true, false, Option, None, Some, Contains, length, slice_index, slice_index_or}
+use Rattle.std.specs.Prelude.{ℕ, ◌+◌, ◌-◌, ◌*◌, ◌^◌, ◌≡◌, ◌<◌, ◌≤◌, ◌⊎◌, List, [], ◌++◌, Bool, true, false, Option, None, Some, Result, Ok, Err, Contains, length, slice_index, slice_index_or}
 use Rattle.dyadic_num.specs.declared.TheConstants.{EXPONENT}
 use Rattle.go_grid.specs.declared.grid.Cell.{Cell}
 use Rattle.go_grid.specs.Region.{Region}
@@ -8,7 +8,8 @@ use Rattle.short_games.specs.TextOrder.{IsCanonicalFor}
 use Rattle.short_games.specs.Parts.{HasMoreParts}
 use Rattle.game_canon.specs.Outcomes.{AreWithin, IsCanonicalId}
 use Rattle.local_value.specs.BudgetTree.{IsBudgetTree}
-use Rattle.local_value.specs.BudgetValues.{plain_graph}
+use Rattle.local_value.specs.BudgetValues.{plain_graph, Valued}
+use Rattle.local_value.specs.declared.budgets.BudgetError.{BudgetError}
 use Rattle.local_value.specs.Values.{IsPlaceOf}
 use Rattle.local_value.specs.inner.Valuing.{AreWithinAfter, HasEdges}
 use Rattle.go_grid.specs.declared.grid.Colour.{Colour}
@@ -88,3 +89,8 @@ pub record IsMade (Ts Us : List Tree) (ids : List ℕ) (limit : ℕ) (fs : List 
   pub value : (G : Tree) → HasEdges Ts ids fs G → IsCanonicalId Us G id
   pub parts : HasMoreParts (tree_at Us id) limit → ⊥
   pub sizes : (b : ℕ) → AreWithinAfter b Ts ids fs → AreWithin (b + 2 ^ EXPONENT) (tree_at Us id)
+
+-- what the layers are worth as an answer, or why there is none
+abbrev pub AreValued : Region → ReturnGraph → Colour → ℕ → ℕ → List Tree → List (List ℕ) → Result (Unit {0}) BudgetError → Type 0
+AreValued r g owner most limit Ts layers (Ok done) = Valued r g owner most limit Ts (Ok layers)
+AreValued r g owner most limit Ts layers (Err e) = Valued r g owner most limit Ts (Err e)

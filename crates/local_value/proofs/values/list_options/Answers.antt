@@ -1,4 +1,5 @@
 use Rattle.std.proofs.Common.{refl}
+use Rattle.game_canon.proofs.ChangedIdLaws.{extends-on}
 use Rattle.local_value.specs.inner.Valuing.{most_units}
 use Rattle.local_value.proofs.OptionsLaws.{listing-add, listing-done, step-noted, step-within}
 use Rattle.local_value.proofs.values.list_options.Goals as goal
@@ -23,3 +24,9 @@ returns c = record {
   sums = c.loop-edge.invariant.sums;
   kept = c.loop-edge.invariant.left.kept;
 }
+
+pub returns-in_err-after-clause-kept : goal.returns-in_err-after-clause-kept
+returns-in_err-after-clause-kept c = extends-on _ _ _ c.loop-edge.invariant.left.kept c.value_after.ensures.kept
+
+pub returns-in_err-option-clause-kept : goal.returns-in_err-option-clause-kept
+returns-in_err-option-clause-kept c = extends-on _ _ _ c.loop-edge.invariant.left.kept c.value_after.ensures.kept

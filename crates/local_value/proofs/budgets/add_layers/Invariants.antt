@@ -4,7 +4,7 @@ use Rattle.game_store.specs.Meaning.{Extends}
 use Rattle.local_value.specs.BudgetValues.{IsReturnGraphOf, AreWithinLimits, IsNeeded}
 use Rattle.local_value.specs.inner.Layers.{AreLayers}
 use Rattle.local_value.specs.inner.Memo.{IsMemoRight}
-use Rattle.local_value.proofs.budgets.value_steady.Given as goal
+use Rattle.local_value.proofs.budgets.add_layers.Given as goal
 
 abbrev pub invariant-layers : goal.invariant-layers
 invariant-layers l = record {
