@@ -134,6 +134,42 @@ pub(crate) fn value_of(
     )
 }
 
+/// Puts the value of each position of a graph into its place.
+fn value_places(
+    alloc: Global,
+    graph: &Graph,
+    store: &mut Store,
+    memo: &mut Memo,
+    ids: &mut Vec<GameId>,
+    parts_limit: u32,
+) -> Result<(), FormError>
+    requires graph { (r : Region) × IsGraphOf r graph.now }
+    requires few { length graph.now.positions ≤ MOST_POSITIONS }
+    requires places { length ids.old.items ≡ length graph.now.positions }
+    requires memo { IsMemoRight store.old parts_limit memo.old }
+    ensures values { OnOk result ((r : Region) → IsGraphOf r graph.now
+        → AreValues r graph.now store.new ids.new.items) }
+    ensures sizes { OnOk result ((r : Region) → IsGraphOf r graph.now → (i : ℕ)
+        → i < length ids.new.items
+        → AreWithin ((length graph.now.positions * length r.cells) * 2 ^ EXPONENT)
+        (tree_at store.new (slice_index ids.new.items i))) }
+    ensures parts { OnOk result ((i : ℕ) → i < length ids.new.items
+        → HasMoreParts (tree_at store.new (slice_index ids.new.items i)) parts_limit → ⊥) }
+    ensures bounds { OnOk result ((i : ℕ) → i < length ids.new.items
+        → HasNumberPastBounds (tree_at store.new (slice_index ids.new.items i)) → ⊥) }
+    ensures refusal { IfErr result (λ error. (r : Region) → IsGraphOf r graph.now
+        → IsValueRefusal r graph.now parts_limit error) }
+    ensures kept { Extends store.old store.new }
+{
+    'valuing: for place in graph.order() {
+        let edges = graph.edges(*place);
+        let id = value_of(alloc, store, memo, ids, edges, parts_limit)?;
+        ids[*place] = id;
+    }
+    let _count = store.len();
+    Ok(())
+}
+
 /// The values of all positions of a graph, as ids by place: the canonical forms of their trees, to each option of which the
 /// stones that its move takes are added for the player who takes them. `Parts` where a value is no number and has more
 /// than `parts_limit` parts, and `Bounds` where a number of a value is past the bounds of a `Dyadic`. Every id of the store
@@ -162,11 +198,8 @@ pub fn value_all(
 {
     let mut ids = vec![in alloc; 0; graph.len()]?;
     let mut memo = Memo::new(alloc);
-    'valuing: for place in graph.order() {
-        let edges = graph.edges(*place);
-        let id = value_of(alloc, store, &mut memo, &ids, edges, parts_limit)?;
-        ids[*place] = id;
-    }
-    let _count = store.len();
+    let valued = value_places(alloc, graph, store, &mut memo, &mut ids, parts_limit);
+    drop(memo);
+    valued?;
     Ok(Values::from(ids))
 }

@@ -1,57 +1,35 @@
-use Rattle.std.proofs.Common.{arith, refl}
+use Rattle.std.proofs.Common.{arith}
 use Rattle.std.proofs.lemmas.Result.{err_from_is_err_and}
 use Rattle.go_grid.specs.Region.{Region}
-use Rattle.game_canon.proofs.ChangedIdLaws.{extends-on, passed-on}
-use Rattle.game_canon.proofs.NumberPartLaws.{within-bounds}
+use Rattle.game_canon.proofs.ChangedIdLaws.{passed-on}
 use Rattle.local_value.specs.Refusals.{IsValueRefusal}
 use Rattle.local_value.specs.Values.{IsGraphOf}
-use Rattle.local_value.proofs.PassLaws.{call, pass-parts, pass-sizes, pass-values}
 use Rattle.local_value.proofs.values.value_all.Goals as goal
 
-pub valuing-init : goal.valuing-init
-valuing-init c = record {
-  kept = record { longer = omega arith; same = λ i l. refl };
-  pass = λ r of. record { long = omega (arith, c.in_ok-ids.ids.ok, c.in_ok-ids.ensures.len, c.len.ensures); each = λ j lt. absurd (omega (arith, lt)) };
-  memo = c.new-memo.ensures c.args.store.now c.args.parts_limit;
-}
+pub value_places-valued-requires-clause-places : goal.value_places-valued-requires-clause-places
+value_places-valued-requires-clause-places c = omega (arith, c.in_ok-ids.ids.ok, c.in_ok-ids.ensures.len, c.len.ensures)
 
-pub value_of-requires : goal.value_of-requires
-value_of-requires c =
-    let (r, of) = c.requires.graph in
-    let w = call of (c.valuing.invariant.pass r of) c.order-place-items.ensures c.edges-edges.ensures c.deref.ensures.value
-    c.valuing-test.true in
-    record { noted = w.noted; small = w.small c.requires.few; memo = c.valuing.invariant.memo }
+pub value_places-valued-requires-clause-memo : goal.value_places-valued-requires-clause-memo
+value_places-valued-requires-clause-memo c = c.new-memo.ensures c.args.store.now c.args.parts_limit
 
-pub valuing-preserved : goal.valuing-preserved
-valuing-preserved c = record {
-  kept = extends-on _ _ _ c.valuing.invariant.kept c.value_of.ensures.kept;
-  pass = λ r of.
-      (call of (c.valuing.invariant.pass r of) c.order-place-items.ensures c.edges-edges.ensures c.deref.ensures.value c.valuing-test.true).step
-      c.value_of.new.store c.in_ok-id.id c.value_of.ensures.kept c.in_ok-id.ensures.value c.in_ok-id.ensures.sizes c.in_ok-id.ensures.parts;
-  memo = c.in_ok-id.ensures.memo;
-}
+pub returns-in_err-valued-clause-refusal : goal.returns-in_err-valued-clause-refusal
+returns-in_err-valued-clause-refusal c = passed-on c.from_residual-in_err-valued.result _ (λ e. (r : Region) → IsGraphOf r c.args.graph.now → IsValueRefusal r c.args.graph.now c.args.parts_limit e)
+    (err_from_is_err_and c.from_residual-in_err-valued.result c.from_residual-in_err-valued.ensures.1) c.in_err-valued.ensures.refusal
 
-pub returns-in_err-id-clause-refusal : goal.returns-in_err-id-clause-refusal
-returns-in_err-id-clause-refusal c = passed-on c.from_residual-in_err-id.result _ (λ e. (r : Region) → IsGraphOf r c.args.graph.now → IsValueRefusal r c.args.graph.now c.args.parts_limit e)
-    (err_from_is_err_and c.from_residual-in_err-id.result c.from_residual-in_err-id.ensures.1)
-    (λ r of. (call of (c.valuing.invariant.pass r of) c.order-place-items.ensures c.edges-edges.ensures c.deref.ensures.value c.valuing-test.true).refused
-    _ c.in_err-id.ensures.refusal)
+pub returns-in_err-valued-clause-kept : goal.returns-in_err-valued-clause-kept
+returns-in_err-valued-clause-kept c = c.value_places-valued.ensures.kept
 
 pub returns-clause-values : goal.returns-clause-values
-returns-clause-values c =
-    rw c.from.ensures (λ r of. pass-values of (c.valuing.invariant.pass r of) c.order-place-items.ensures c.valuing-test.false)
+returns-clause-values c = rw c.from.ensures c.in_ok-valued.ensures.values
 
 pub returns-clause-sizes : goal.returns-clause-sizes
-returns-clause-sizes c =
-    rw c.from.ensures (λ r of i lt. pass-sizes of (c.valuing.invariant.pass r of) c.order-place-items.ensures c.valuing-test.false i lt)
+returns-clause-sizes c = rw c.from.ensures c.in_ok-valued.ensures.sizes
 
 pub returns-clause-parts : goal.returns-clause-parts
-returns-clause-parts c =
-    let (r, of) = c.requires.graph in
-    rw c.from.ensures (λ i lt. pass-parts of (c.valuing.invariant.pass r of) c.order-place-items.ensures c.valuing-test.false i lt)
+returns-clause-parts c = rw c.from.ensures c.in_ok-valued.ensures.parts
 
 pub returns-clause-bounds : goal.returns-clause-bounds
-returns-clause-bounds c =
-    let (r, of) = c.requires.graph in
-    rw c.from.ensures (λ i lt. within-bounds c.valuing.store c.len-count.ensures.forms _
-    ((pass-values of (c.valuing.invariant.pass r of) c.order-place-items.ensures c.valuing-test.false).known i lt))
+returns-clause-bounds c = rw c.from.ensures c.in_ok-valued.ensures.bounds
+
+pub returns-clause-kept : goal.returns-clause-kept
+returns-clause-kept c = c.value_places-valued.ensures.kept

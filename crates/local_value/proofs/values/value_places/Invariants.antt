@@ -3,7 +3,7 @@ use Rattle.game_store.specs.Meaning.{Extends}
 use Rattle.local_value.specs.inner.Memo.{IsMemoRight}
 use Rattle.local_value.specs.Values.{IsGraphOf}
 use Rattle.local_value.proofs.PassLaws.{IsPass}
-use Rattle.local_value.proofs.values.value_all.Given as goal
+use Rattle.local_value.proofs.values.value_places.Given as goal
 
 abbrev pub invariant-valuing : goal.invariant-valuing
 invariant-valuing l = record {
