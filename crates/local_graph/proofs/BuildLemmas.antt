@@ -1,5 +1,5 @@
 -- From exploring and searching to a graph.
-use Rattle.std.proofs.Common.{◌≡◌, ◌≢◌, ◌↔◌, ℕ, ◌+◌, ◌-◌, ◌*◌, ◌<◌, ◌≤◌, zero, suc, add-one, arith, refl, sym, ap, ◌∙◌, List, [], ◌∷◌, ◌++◌, map, true, length, get_or, subst, nat_eq, Err}
+use Rattle.std.proofs.Common.{◌≡◌, ◌≢◌, ◌↔◌, ℕ, ◌+◌, ◌-◌, ◌*◌, ◌<◌, ◌≤◌, zero, suc, add-one, arith, refl, sym, ap, ◌∙◌, List, [], ◌∷◌, ◌++◌, map, true, length, get_or, subst, nat_eq, Result, Ok, Err, IfOk}
 use Rattle.std.specs.List.{AllPairs, Contains, list_any}
 use Rattle.std.specs.List.Sorted.{IsStrictlyIncreasing}
 use Rattle.std.specs.Cmp.{nat_eq_equiv}
@@ -20,7 +20,9 @@ use Rattle.local_graph.specs.declared.graph.Edge.{Edge}
 use Rattle.local_graph.specs.declared.graph_build.GraphError.{GraphError}
 use Rattle.local_graph.specs.declared.graph_build.GraphError.TheVariants.{Points, Positions, Cycle, Memory}
 use Rattle.local_graph.specs.Built.{Built}
+use Rattle.local_graph.specs.Graph.{Graph}
 use Rattle.local_graph.specs.inner.Found.{Explored}
+use Rattle.local_graph.specs.inner.SearchedFor.{IsOrdered}
 use Rattle.local_graph.specs.inner.Built.{ComesBack, Follows, IsEdgeAt, IsRooted}
 use Rattle.local_graph.specs.FiniteLocalPlay.{HasNoCycle}
 use Rattle.local_graph.specs.LocalGraph.{AreDifferent, IsCycle, IsGraph, IsOrderOfPlaces, IsReachable, MoreThan, Plays}
@@ -153,3 +155,18 @@ refused r limit positions Positions more few = (few, more)
 refused r limit positions (Points n) e few = absurd e
 refused r limit positions (Cycle ms back) e few = absurd e
 refused r limit positions (Memory cause) e few = tt
+
+-- what the search among the positions gives
+pub built_or_cycle : (r : Region) (limit : ℕ) (positions : List ℕ) (edges : List (List Edge)) (result : Result Graph GraphError)
+    → IsGraph r.touch r.cells positions edges × (length positions ≤ limit) → length r.points ≤ 32 → IsOrdered positions edges result → Built r limit result
+built_or_cycle r limit positions edges (Ok g) graph few (is, its, order) =
+    built r.touch r.cells limit (length r.points) positions g.positions g.order g.order edges g.edges graph few order is its refl
+built_or_cycle r limit positions edges (Err (Cycle ms back)) graph few c = has_cycle r.touch r.cells limit (length r.points) back positions edges ms graph few c
+built_or_cycle r limit positions edges (Err (Memory e)) graph few c = tt
+built_or_cycle r limit positions edges (Err (Points n)) graph few c = absurd c
+built_or_cycle r limit positions edges (Err Positions) graph few c = absurd c
+
+pub ordered_count : (positions : List ℕ) (edges : List (List Edge)) (result : Result Graph GraphError) (before after : ℕ)
+    → IsOrdered positions edges result → after ≡ before + length positions → IfOk result (λ g. after ≡ before + length g.positions)
+ordered_count positions edges (Ok g) before after (is, its, order) e = e ∙ ap (λ ns. before + length ns) (sym is)
+ordered_count positions edges (Err e) before after c h = tt

@@ -305,6 +305,10 @@ edges_from touch cells before limit after moves es (Err (Points n)) lists x = ab
 edges_from touch cells before limit after moves es (Err (Cycle ms back)) lists x = absurd x
 edges_from touch cells before limit after moves es (Err (Memory e)) lists x = tt
 
+pub not_fewer : (touch : List Touch) (cells : List Cell) (before : List ℕ) (limit : ℕ) (after : List ℕ) (es : List Edge) (done : Unit {0})
+    → EdgesFrom touch cells before limit after es (Ok done) → length before ≤ length after
+not_fewer touch cells before limit after es done (moves, lists, x) = omega (arith, ap length x.0.appended, length-append before x.0.more)
+
 pub explored_fails : (touch : List Touch) (opening : List Cell) (limit : ℕ) (positions after : List ℕ)
     (i n : ℕ) (es : List Edge) (e : GraphError) → AreReachable touch opening positions
     → (w : IsNext touch opening positions i n) → EdgesFrom touch w.cells positions limit after es (Err e) → Explored touch opening limit after (Err e)

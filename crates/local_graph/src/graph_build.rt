@@ -8,6 +8,8 @@ ghost use Rattle.go_grid.specs.declared.region.Touch.{Touch};
 ghost use Rattle.local_play.specs.Links.{IsTable};
 ghost use Rattle.local_play.specs.Packed.{pack};
 ghost use Rattle.local_graph.specs.Built.{Built};
+ghost use Rattle.local_graph.specs.inner.Built.{IsRooted};
+ghost use Rattle.local_graph.specs.inner.SearchedFor.{IsOrdered};
 ghost use Rattle.local_graph.specs.inner.Exploring.{IsExploring, Begun, Ended, IsPositionOn, EdgesFrom};
 ghost use Rattle.local_graph.specs.inner.Graph.{lists_of, AreWithin};
 ghost use Rattle.local_graph.specs.inner.Found.{Placed, EdgesFor, edge_of, Explored, AreAwaited};
@@ -224,7 +226,8 @@ fn begin(
     requires table { IsPlaceTable table.old }
     requires none { table.old.positions.items ≡ [] }
     requires numbers { table.old.numbers ≡ 3 ^ length region.now.points }
-    ensures { Begun region.now.touch region.now.cells limit (length region.now.points) table.new result }
+    ensures { Begun region.now.touch region.now.cells limit (length region.now.points) table.new
+        result }
 {
     new_place(alloc, table, start(region), limit)?;
     let mut found = Exploration {
@@ -311,6 +314,18 @@ pub(crate) fn positions_of(table: PlaceTable) -> Vec<u64>
     table.positions
 }
 
+/// The graph of the positions and their edges, or a cycle.
+fn order_graph(alloc: Global, positions: Vec<u64>, edges: EdgeLists) -> Result<Graph, GraphError>
+    requires rooted { IsRooted edges }
+    requires beside { length edges ≡ length positions.items }
+    ensures { IsOrdered positions.items edges result }
+{
+    match search_from_opening(alloc, &edges)? {
+        Searched::Order(order) => Ok(Graph::new(positions, edges, order)),
+        Searched::Cycle(moves, start) => Err(GraphError::Cycle(moves, start)),
+    }
+}
+
 /// The graph of exactly the positions that local play reaches from the region's cells, each with exactly its moves. It takes
 /// exactly one step for each of them, and where there is no graph at most one.
 pub fn build<L: Ledger>(
@@ -331,9 +346,5 @@ pub fn build<L: Ledger>(
     }
     let mut found = PlaceTable::new(alloc, points)?;
     let edges = explore(alloc, region, limit, &mut found, steps)?;
-    let positions = positions_of(found);
-    match search_from_opening(alloc, &edges)? {
-        Searched::Order(order) => Ok(Graph::new(positions, edges, order)),
-        Searched::Cycle(moves, start) => Err(GraphError::Cycle(moves, start)),
-    }
+    order_graph(alloc, positions_of(found), edges)
 }

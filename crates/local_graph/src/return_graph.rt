@@ -5,7 +5,7 @@ ghost use Rattle.std.specs.Prelude.{◌≡◌, ◌+◌, ◌^◌, ◌<◌, ◌≤
 ghost use Rattle.local_graph.specs.BuiltWithReturns.{BuiltWithReturns};
 ghost use Rattle.local_graph.specs.ReturnGraph.{StaysIn, IsReturningCaptureAt, order_for};
 ghost use Rattle.local_graph.specs.inner.Built.{IsRooted};
-ghost use Rattle.local_graph.specs.inner.MadeWithReturns.{IsMadeOf};
+ghost use Rattle.local_graph.specs.inner.MadeWithReturns.{IsMadeOf, AreReturning};
 
 use crate::edge_lists::EdgeLists;
 use crate::graph::{Edge, Graph};
@@ -102,6 +102,26 @@ impl ReturnGraph {
     }
 }
 
+/// What tells which moves return, and the order for Black.
+fn what_returns(
+    alloc: Global,
+    positions: &[u64],
+    edges: &EdgeLists,
+) -> Result<(Returning, Vec<usize>), AllocError>
+    requires rooted { IsRooted edges.now }
+    requires beside { length edges.now ≡ length positions.now }
+    ensures { IfOk result (λ told. AreReturning positions.now edges.now told.0 told.1.items) }
+{
+    let components = strong_components(alloc, edges)?;
+    let black_order = order_between_captures(alloc, positions, &components, Colour::Black)?;
+    let white_order = order_between_captures(alloc, positions, &components, Colour::White)?;
+    let told = Returning {
+        components,
+        white_order,
+    };
+    Ok((told, black_order))
+}
+
 /// The graph of positions and their moves.
 fn tell_returns(
     alloc: Global,
@@ -118,15 +138,10 @@ fn tell_returns(
             returning: None,
         });
     }
-    let components = strong_components(alloc, &edges)?;
-    let black_order = order_between_captures(alloc, &positions, &components, Colour::Black)?;
-    let white_order = order_between_captures(alloc, &positions, &components, Colour::White)?;
+    let (told, black_order) = what_returns(alloc, &positions, &edges)?;
     Ok(ReturnGraph {
         graph: Graph::new(positions, edges, black_order),
-        returning: Some(Returning {
-            components,
-            white_order,
-        }),
+        returning: Some(told),
     })
 }
 

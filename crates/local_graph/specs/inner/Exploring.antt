@@ -8,7 +8,6 @@ use Rattle.local_play.specs.Moves.{ListsLocalMoves}
 use Rattle.local_play.specs.Packed.{pack}
 use Rattle.local_play.specs.declared.links.Links.{Links}
 use Rattle.local_play.specs.declared.local_move.LocalMove.{LocalMove}
-use Rattle.local_graph.specs.declared.edge_lists.Span.{Span}
 use Rattle.local_graph.specs.declared.graph.Edge.{Edge}
 use Rattle.local_graph.specs.declared.graph_build.Exploration.{Exploration}
 use Rattle.local_graph.specs.declared.graph_build.GraphError.{GraphError}

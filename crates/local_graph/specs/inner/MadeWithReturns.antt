@@ -41,3 +41,10 @@ pub record IsMadeOf (positions : List ℕ) (edges : List (List Edge)) (g : Retur
   pub positions_are : g.positions ≡ positions
   pub edges_are : g.edges ≡ edges
   pub told : AreTold positions edges g.components g.black_order g.white_order
+
+-- components of the edges, and for each colour an order by its ranks, of which Black's stands alone
+pub record AreReturning (positions : List ℕ) (edges : List (List Edge)) (r : Returning) (black : List ℕ) : Type 0 where
+  pub components : AreComponents edges r.components.items
+  pub black_order : AllFallOrRise Black positions r.components.items edges → IsOrderBetweenCaptures Black edges (Some r.components.items) black
+  pub white_order : AllFallOrRise White positions r.components.items edges
+      → IsOrderBetweenCaptures White edges (Some r.components.items) r.white_order.items

@@ -1,10 +1,10 @@
-use Rattle.std.proofs.Common.{arith, refl, ap, sym, ◌∙◌, ◌≡◌, ◌^◌, length, length-append, drop, set}
+use Rattle.std.proofs.Common.{arith, refl, ap, sym, ◌∙◌, ◌≡◌, ◌^◌, length, ◌≤◌, drop, set}
 use Rattle.std.proofs.lemmas.Result.{err_from_is_err_and}
 use Rattle.std.proofs.lemmas.List.{length_push, length-set, length-map}
 use Rattle.local_graph.specs.inner.Graph.{part, lists_of}
 use Rattle.local_graph.specs.declared.edge_lists.Span.{Span}
 use Rattle.local_graph.proofs.EdgeListLemmas.{lists_put, within_put}
-use Rattle.local_graph.proofs.ExploreLemmas.{next_position, last_waiting, explored_more, explored_fails, explored_all, few_numbers}
+use Rattle.local_graph.proofs.ExploreLemmas.{next_position, last_waiting, explored_more, explored_fails, explored_all, few_numbers, not_fewer}
 use Rattle.local_graph.proofs.graph_build.explore_waiting.Goals as goal
 
 pub exploring-init : goal.exploring-init
@@ -70,9 +70,9 @@ await_new-requires g c =
     let next = next_position c.args.region.now.touch c.args.region.now.cells _ _ _ s.reachable inside c.index-position.ensures in
     let full = next.long ∙ u.full ∙ sym c.of-links.ensures.full in
     let listed = c.in_ok-list_position.ensures.edges c.args.region.now.touch next.cells c.of-links.ensures.table full next.packed in
-    let more = listed.2.0 in
     let spans = c.exploring.found.spans.items in
     let found = c.list_position.new.table.positions in
+    let more : length c.exploring.table.positions.items ≤ length found.items = not_fewer _ _ _ _ _ _ _ listed in
     omega (
       arith,
       c.len.ensures,
@@ -80,8 +80,7 @@ await_new-requires g c =
       length-set spans c.in-Some.place (record { start = c.len-first.result; end = c.len-end.result }),
       length-map spans (part c.exploring.found.edges.items),
       s.beside,
-      ap length more.appended,
-      length-append c.exploring.table.positions.items more.more,
+      more,
     )
 
 pub exploring-preserved : goal.exploring-preserved

@@ -16,15 +16,14 @@ returns-in-Some c =
 pub returns : goal.returns
 returns c =
     let new = c.new-2.ensures in
-    let black = rw (c.deref.ensures.value, c.deref-2.ensures.value) at c.in_ok-black_order.ensures in
-    let white = rw (c.deref-3.ensures.value, c.deref-4.ensures.value) at c.in_ok-white_order.ensures in
+    let told = rw c.deref.ensures.value at c.in_ok-told.ensures in
     record {
       positions_are = ap (λ g. g.positions) new;
       edges_are = ap (λ g. g.edges) new;
       told = (
         rw c.in_default.is at c.in_ok-order.ensures,
-        c.in_ok-components.ensures,
-        λ f. subst (IsOrderBetweenCaptures Black c.args.edges (Some c.in_ok-components.components.items)) (sym (ap (λ g. g.order) new)) (black c.args.edges f),
-        white c.args.edges,
+        told.components,
+        λ f. subst (IsOrderBetweenCaptures Black c.args.edges (Some _)) (sym (ap (λ g. g.order) new)) (told.black_order f),
+        told.white_order,
       );
     }
