@@ -10,3 +10,4 @@ pub mod PassLaws
 pub mod LayerLaws
 pub mod LayerPassLaws
 pub mod SteadyLaws
+pub mod ChainLemmas

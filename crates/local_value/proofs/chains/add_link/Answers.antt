@@ -1,11 +1,8 @@
-use Rattle.std.proofs.Common.{◌+◌, ◌≡◌, ◌++◌, ◌∙◌, ℕ, List, length, take, drop, arith, ap, sym, subst}
-use Rattle.std.proofs.lemmas.List.{length_push, take_all, take-append-le}
+use Rattle.std.proofs.Common.{◌+◌, ◌≡◌, ◌∙◌, length, arith, ap, sym, subst}
+use Rattle.std.proofs.lemmas.List.{length_push}
 use Rattle.local_value.specs.inner.Chains.{AreBelow, AreChained}
+use Rattle.local_value.proofs.ChainLemmas.{written}
 use Rattle.local_value.proofs.chains.add_link.Goals as goal
-
--- what was written back through a slice
-written : {A : Type 0} (n : ℕ) (xs ys : List A) → length xs ≡ n → take n (xs ++ drop (length xs) ys) ≡ xs
-written n xs ys long = take-append-le n xs (drop (length xs) ys) (omega (arith, long)) ∙ take_all n xs (omega (arith, long))
 
 pub returns-in_err-push-clause-chained : goal.returns-in_err-push-clause-chained
 returns-in_err-push-clause-chained c = subst (AreChained c.args.latest.now) (sym c.in_err-push.ensures.items) c.requires.chained

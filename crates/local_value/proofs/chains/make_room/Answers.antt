@@ -1,11 +1,7 @@
-use Rattle.std.proofs.Common.{◌≡◌, ◌++◌, ◌∙◌, ℕ, List, length, take, drop, arith, ap, sym, subst}
-use Rattle.std.proofs.lemmas.List.{take_all, take-append-le}
+use Rattle.std.proofs.Common.{◌++◌, ◌∙◌, length, take, drop, arith, ap, sym, subst}
 use Rattle.local_value.specs.inner.Chains.{AreChained}
+use Rattle.local_value.proofs.ChainLemmas.{written}
 use Rattle.local_value.proofs.chains.make_room.Goals as goal
-
--- what was written back through a slice
-written : {A : Type 0} (n : ℕ) (xs ys : List A) → length xs ≡ n → take n (xs ++ drop (length xs) ys) ≡ xs
-written n xs ys long = take-append-le n xs (drop (length xs) ys) (omega (arith, long)) ∙ take_all n xs (omega (arith, long))
 
 pub returns-then-len-clause-chained : goal.returns-then-len-clause-chained
 returns-then-len-clause-chained c = c.requires.chained
