@@ -1,4 +1,5 @@
 pub mod SumSteps
+pub mod GroupSteps
 pub mod ReturnSteps
 pub mod NumberSteps
 pub mod TableSteps

@@ -8,6 +8,7 @@ ghost use Rattle.game_store.specs.Meaning.{listed, AreIds, Extends};
 ghost use Rattle.short_games.specs.Parts.{HasMoreParts};
 ghost use Rattle.game_canon.specs.inner.Changes.{AreKnown};
 ghost use Rattle.game_canon.specs.FormComparisons.{AreFormComparisonsRight};
+ghost use Rattle.game_canon.specs.Groups.{AreGroups};
 ghost use Rattle.game_canon.specs.Outcomes.{IsCanonicalId, IsCause};
 ghost use Rattle.game_calc.specs.inner.Returns.{IsSmall};
 ghost use Rattle.game_calc.specs.inner.Steps.{IsPairRefusal};
@@ -16,7 +17,7 @@ ghost use Rattle.game_calc.specs.inner.Table.{noted, beside, AreNoted, AddsSums,
 use crate::returns::returned;
 use crate::table::{Summand, Sums, noted_sum};
 use dyadic_num::Dyadic;
-use game_canon::{FormComparisons, FormError, canonical_with};
+use game_canon::{Cuts, FormComparisons, FormError, canonical_of_groups};
 use game_store::{Form, GameId, Store};
 use std::alloc::{AllocError, Global};
 
@@ -74,6 +75,17 @@ fn add_moves(
     }
 }
 
+/// How many options there are by now.
+fn cuts_behind(options: &Options) -> Cuts
+    ensures left { result.left ≡ length options.now.left.items }
+    ensures right { result.right ≡ length options.now.right.items }
+{
+    Cuts {
+        left: options.left.len(),
+        right: options.right.len(),
+    }
+}
+
 /// The number that a form is.
 pub(crate) fn number_of(store: &Store, id: GameId) -> Option<Dyadic>
     requires { id < length store.now }
@@ -119,19 +131,22 @@ fn number_sum(
     Ok(store.number(sum)?)
 }
 
-/// The canonical form of the form with these options: the one to which it is found to return, or else as `canonical_with`
-/// makes it.
+/// The canonical form of the form with these options, which come in two groups: the one to which it is found to return, or else as
+/// `canonical_of_groups` makes it.
 fn form_of(
     alloc: Global,
     store: &mut Store,
     comparisons: &mut FormComparisons,
     left: &[GameId],
     right: &[GameId],
+    cuts: Cuts,
     latest: Option<GameId>,
     parts_limit: u32,
 ) -> Result<GameId, FormError>
     requires left { AreIds store.old left.now }
     requires right { AreIds store.old right.now }
+    requires left_groups { AreGroups store.old left.now cuts.left }
+    requires right_groups { AreGroups store.old right.now cuts.right }
     requires latest { IsSmall store.old parts_limit latest }
     requires comparisons { AreFormComparisonsRight store.old comparisons.old }
     ensures value { IfOk result (λ id. IsCanonicalId store.new
@@ -146,7 +161,7 @@ fn form_of(
     if let Some(id) = returned(store, left, right, latest) {
         return Ok(id);
     }
-    canonical_with(alloc, store, comparisons, left, right, parts_limit)
+    canonical_of_groups(alloc, store, comparisons, left, right, cuts, parts_limit)
 }
 
 /// The canonical form of the sum of two forms: that of the same two the other way round, where it is noted; two numbers are
@@ -188,6 +203,7 @@ pub(crate) fn pair_sum(
         right: Vec::new(alloc),
     };
     add_moves(store, sums, Summand::First, a, b, &mut options)?;
+    let cuts = cuts_behind(&options);
     add_moves(store, sums, Summand::Second, b, a, &mut options)?;
     form_of(
         alloc,
@@ -195,6 +211,7 @@ pub(crate) fn pair_sum(
         comparisons,
         &options.left,
         &options.right,
+        cuts,
         latest,
         parts_limit,
     )

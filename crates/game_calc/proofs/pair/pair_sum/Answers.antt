@@ -7,6 +7,7 @@ use Rattle.game_canon.specs.Outcomes.{IsCanonicalId, IsCause}
 use Rattle.short_games.proofs.SumLaws.{plus-comm}
 use Rattle.game_calc.specs.inner.Steps.{IsPairRefusal}
 use Rattle.game_calc.specs.inner.Table.{noted}
+use Rattle.game_calc.proofs.GroupSteps.{ArePairGroups, pair-groups}
 use Rattle.game_calc.proofs.SumSteps.{IsPairForm, pair-form, id-as, refusal-as}
 use Rattle.game_calc.proofs.pair.pair_sum.Goals as goal
 
@@ -19,6 +20,17 @@ made' : (c : goal.After-drop-options-3) → IsPairForm c.args.store.now c.args.a
 made' c = pair-form c.args.store.now c.args.parts_limit (noted c.args.sums.now) c.args.a c.args.b c.new.result.items c.new-2.result.items c.add_moves.new.options.left.items c.add_moves.new.options.right.items
     c.add_moves-2.new.options.left.items c.add_moves-2.new.options.right.items _ _ c.requires.right c.len-count.ensures.canonical c.requires.a c.requires.b c.in_default-both_numbers.ensures c.new.ensures.items c.new-2.ensures.items
     c.in_ok-add_moves.ensures c.in_ok-add_moves-2.ensures c.deref.ensures.value c.deref-2.ensures.value
+
+groups : (c : goal.After-deref-2) → ArePairGroups c.args.store.now c.deref.result.now c.deref-2.result.now c.cuts_behind-cuts.result.left c.cuts_behind-cuts.result.right
+groups c = pair-groups c.args.store.now c.args.parts_limit (noted c.args.sums.now) c.args.a c.args.b c.new.result.items c.new-2.result.items c.add_moves.new.options.left.items c.add_moves.new.options.right.items
+    c.add_moves-2.new.options.left.items c.add_moves-2.new.options.right.items _ _ _ _ c.requires.right c.len-count.ensures.canonical c.requires.a c.requires.b c.new.ensures.items c.new-2.ensures.items
+    c.in_ok-add_moves.ensures c.in_ok-add_moves-2.ensures c.deref.ensures.value c.deref-2.ensures.value c.cuts_behind-cuts.ensures.left c.cuts_behind-cuts.ensures.right
+
+pub form_of-requires-clause-left_groups : goal.form_of-requires-clause-left_groups
+form_of-requires-clause-left_groups c = (groups c).left_groups
+
+pub form_of-requires-clause-right_groups : goal.form_of-requires-clause-right_groups
+form_of-requires-clause-right_groups c = (groups c).right_groups
 
 pub form_of-requires-clause-left : goal.form_of-requires-clause-left
 form_of-requires-clause-left c = (made c).left_ids
