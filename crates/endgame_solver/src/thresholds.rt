@@ -34,7 +34,7 @@ pub(crate) struct StopSums {
 
 /// The sum of two numbers.
 fn sum_of(one: i128, other: i128) -> i128
-    requires { unsigned_abs one + unsigned_abs other < 2 ^ 120 }
+    requires { unsigned_abs one + unsigned_abs other < 2 ^ 122 }
     ensures { result ≡ one +ℤ other }
 {
     one + other
@@ -68,7 +68,7 @@ impl StopSums {
         requires { unsigned_abs self.right < 2 ^ 120 }
         ensures { IsTrue result ↔ (pos 0 <ℤ (self.right +ℤ number)) }
     {
-        self.right + number.units() > 0
+        sum_of(self.right, number.units()) > 0
     }
 
     /// Whether the left stops and the number add up to less than 0.
@@ -76,7 +76,7 @@ impl StopSums {
         requires { unsigned_abs self.left < 2 ^ 120 }
         ensures { IsTrue result ↔ ((self.left +ℤ number) <ℤ pos 0) }
     {
-        self.left + number.units() < 0
+        sum_of(self.left, number.units()) < 0
     }
 }
 
@@ -189,6 +189,22 @@ pub(crate) fn least_win(
     above_least(won)
 }
 
+/// What the first number is more than the second.
+fn difference_of(one: i128, other: i128) -> i128
+    requires { unsigned_abs one + unsigned_abs other < 2 ^ 122 }
+    ensures { result ≡ one -ℤ other }
+{
+    one - other
+}
+
+/// A small number in 64 bits.
+fn narrowed(number: i128) -> i64
+    requires { unsigned_abs number ≤ 2 ^ 46 }
+    ensures { result ≡ number }
+{
+    number as i64
+}
+
 /// What is left of a balance in halves of a point.
 fn left_of(balance: i128, halves: i64) -> i64
     requires balance { unsigned_abs balance ≤ 2 ^ 45 }
@@ -196,7 +212,7 @@ fn left_of(balance: i128, halves: i64) -> i64
     ensures left { result ≡ balance -ℤ halves }
     ensures small { unsigned_abs result ≤ 2 ^ 46 }
 {
-    (balance - i128::from(halves)) as i64
+    narrowed(difference_of(balance, i128::from(halves)))
 }
 
 /// How many halves of a point can be taken from the purses so that this least number, beside which Black wins, is left.
