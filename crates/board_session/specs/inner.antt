@@ -5,3 +5,4 @@ pub mod Doing
 pub mod Obeying
 pub mod Viewed
 pub mod Analysing
+pub mod Naming

@@ -5,6 +5,7 @@ ghost use Rattle.board_session.specs.Orders.{analysis_word, basic_word, command_
 ghost use Rattle.board_session.specs.declared.command.AnalysisCommand.{AnalysisCommand};
 ghost use Rattle.board_session.specs.declared.command.BasicCommand.{BasicCommand};
 ghost use Rattle.board_session.specs.declared.command.Command.{Command};
+ghost use Rattle.board_session.specs.inner.Naming.{NamesNone, play_commands, protocol_commands, setting_commands, state_commands};
 
 use std::str;
 
@@ -61,10 +62,10 @@ pub(crate) enum Command {
     Analyse(AnalysisCommand),
 }
 
-/// The command that a word names, of those that ask for no analysis.
-fn read_basic(word: &str) -> Option<BasicCommand>
+/// The command that a word names, of those on the protocol and the engine.
+fn read_protocol(word: &str) -> Option<BasicCommand>
     ensures some { IfSome result (λ command. word.now ≡ basic_word command) }
-    ensures none { IfNone result ((command : BasicCommand) → word.now ≢ basic_word command) }
+    ensures none { IfNone result (NamesNone word.now protocol_commands) }
 {
     match word {
         "protocol_version" => Some(BasicCommand::ProtocolVersion),
@@ -73,6 +74,16 @@ fn read_basic(word: &str) -> Option<BasicCommand>
         "known_command" => Some(BasicCommand::KnownCommand),
         "list_commands" => Some(BasicCommand::ListCommands),
         "quit" => Some(BasicCommand::Quit),
+        _ => None,
+    }
+}
+
+/// The command that a word names, of those that set up, play or take back.
+fn read_play(word: &str) -> Option<BasicCommand>
+    ensures some { IfSome result (λ command. word.now ≡ basic_word command) }
+    ensures none { IfNone result (NamesNone word.now play_commands) }
+{
+    match word {
         "boardsize" => Some(BasicCommand::BoardSize),
         "clear_board" => Some(BasicCommand::ClearBoard),
         "komi" => Some(BasicCommand::Komi),
@@ -81,6 +92,16 @@ fn read_basic(word: &str) -> Option<BasicCommand>
         "reg_genmove" => Some(BasicCommand::RegGenMove),
         "loadsgf" => Some(BasicCommand::LoadSgf),
         "undo" => Some(BasicCommand::Undo),
+        _ => None,
+    }
+}
+
+/// The command that a word names, of those that ask for a part of the state.
+fn read_state(word: &str) -> Option<BasicCommand>
+    ensures some { IfSome result (λ command. word.now ≡ basic_word command) }
+    ensures none { IfNone result (NamesNone word.now state_commands) }
+{
+    match word {
         "showboard" => Some(BasicCommand::ShowBoard),
         "list_stones" => Some(BasicCommand::ListStones),
         "captures" => Some(BasicCommand::Captures),
@@ -88,6 +109,16 @@ fn read_basic(word: &str) -> Option<BasicCommand>
         "query_boardsize" => Some(BasicCommand::QueryBoardSize),
         "get_komi" => Some(BasicCommand::GetKomi),
         "get_handicap" => Some(BasicCommand::GetHandicap),
+        _ => None,
+    }
+}
+
+/// The command that a word names, of those on handicap stones, the level and time.
+fn read_setting(word: &str) -> Option<BasicCommand>
+    ensures some { IfSome result (λ command. word.now ≡ basic_word command) }
+    ensures none { IfNone result (NamesNone word.now setting_commands) }
+{
+    match word {
         "fixed_handicap" => Some(BasicCommand::FixedHandicap),
         "set_free_handicap" => Some(BasicCommand::SetFreeHandicap),
         "level" => Some(BasicCommand::Level),
@@ -95,6 +126,23 @@ fn read_basic(word: &str) -> Option<BasicCommand>
         "time_left" => Some(BasicCommand::TimeLeft),
         _ => None,
     }
+}
+
+/// The command that a word names, of those that ask for no analysis.
+fn read_basic(word: &str) -> Option<BasicCommand>
+    ensures some { IfSome result (λ command. word.now ≡ basic_word command) }
+    ensures none { IfNone result ((command : BasicCommand) → word.now ≢ basic_word command) }
+{
+    if let Some(command) = read_protocol(word) {
+        return Some(command);
+    }
+    if let Some(command) = read_play(word) {
+        return Some(command);
+    }
+    if let Some(command) = read_state(word) {
+        return Some(command);
+    }
+    read_setting(word)
 }
 
 /// The command that a word names, of those that ask for an analysis.
