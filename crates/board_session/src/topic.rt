@@ -46,12 +46,16 @@ pub(crate) fn read_status(word: &[u8]) -> Option<Status>
     ensures some { IfSome result (λ status. word.now ≡ status_word status) }
     ensures none { IfNone result ((status : Status) → word.now ≢ status_word status) }
 {
-    match word {
-        b"alive" => Some(Status::Alive),
-        b"dead" => Some(Status::Dead),
-        b"seki" => Some(Status::Seki),
-        _ => None,
+    if word == b"alive".as_slice() {
+        return Some(Status::Alive);
     }
+    if word == b"dead".as_slice() {
+        return Some(Status::Dead);
+    }
+    if word == b"seki".as_slice() {
+        return Some(Status::Seki);
+    }
+    None
 }
 
 /// The topic that a game with cycles tells, where they are admitted.
