@@ -2,6 +2,7 @@ pub mod NameLemmas
 pub mod TextLemmas
 pub mod KeptLemmas
 pub mod OrderLemmas
+pub mod RangeLemmas
 pub mod AnswerLemmas
 pub mod StandingLemmas
 pub mod HandicapLemmas

@@ -3,7 +3,6 @@
 ghost use Rattle.std.specs.Prelude.{◌≡◌, ◌≤◌, ℕ, map, IfSome, IfNone};
 ghost use Rattle.board_words.specs.Numbers.{IsNumberWord};
 ghost use Rattle.board_session.specs.Orders.{AnalysesAlone, AnalysesOne, Asks, BoardOrder, FitsAlone, FitsAnalysis, FitsArguments, FitsBasic, FitsFew, FitsOne, FitsThree, FitsTwo, moves_before};
-ghost use Rattle.board_session.specs.inner.Doing.{AsksInRange, HasKomiInRange};
 ghost use Rattle.board_session.specs.inner.Viewed.{asked_of, order_of};
 
 use crate::command::{AnalysisCommand, BasicCommand, Command, read_command};
@@ -62,7 +61,6 @@ pub(crate) enum Asked<'a, 'b> {
 /// The request of a command without an argument.
 fn alone<'a, 'b>(command: BasicCommand) -> Option<Request<'a, 'b>>
     ensures some { IfSome result (λ request. FitsAlone command (order_of request)) }
-    ensures range { IfSome result (λ request. HasKomiInRange (order_of request)) }
     ensures none { IfNone result ((order : BoardOrder) → ¬ FitsAlone command order) }
 {
     match command {
@@ -85,7 +83,6 @@ fn alone<'a, 'b>(command: BasicCommand) -> Option<Request<'a, 'b>>
 /// The request of a command with one argument.
 fn with_one<'a, 'b>(command: BasicCommand, word: &'a [u8]) -> Option<Request<'a, 'b>>
     ensures some { IfSome result (λ request. FitsOne command word.now (order_of request)) }
-    ensures range { IfSome result (λ request. HasKomiInRange (order_of request)) }
     ensures none { IfNone result ((order : BoardOrder) → ¬ FitsOne command word.now order) }
 {
     match command {
@@ -140,7 +137,6 @@ fn with_two<'a, 'b>(
 ) -> Option<Request<'a, 'b>>
     ensures some { IfSome result (λ request. FitsTwo command first.now second.now
         (order_of request)) }
-    ensures range { IfSome result (λ request. HasKomiInRange (order_of request)) }
     ensures none { IfNone result ((order : BoardOrder)
         → ¬ FitsTwo command first.now second.now order) }
 {
@@ -160,7 +156,6 @@ fn with_three<'a, 'b>(
 ) -> Option<Request<'a, 'b>>
     ensures some { IfSome result (λ request. FitsThree command first.now second.now third.now
         (order_of request)) }
-    ensures range { IfSome result (λ request. HasKomiInRange (order_of request)) }
     ensures none { IfNone result ((order : BoardOrder)
         → ¬ FitsThree command first.now second.now third.now order) }
 {
@@ -185,7 +180,6 @@ fn with_three<'a, 'b>(
 fn with_few<'a, 'b>(command: BasicCommand, arguments: &'b [&'a [u8]]) -> Option<Request<'a, 'b>>
     ensures some { IfSome result (λ request. FitsFew command (map (λ w. w.now) arguments.now)
         (order_of request)) }
-    ensures range { IfSome result (λ request. HasKomiInRange (order_of request)) }
     ensures none { IfNone result ((order : BoardOrder)
         → ¬ FitsFew command (map (λ w. w.now) arguments.now) order) }
 {
@@ -202,7 +196,6 @@ fn with_few<'a, 'b>(command: BasicCommand, arguments: &'b [&'a [u8]]) -> Option<
 fn fit_basic<'a, 'b>(command: BasicCommand, arguments: &'b [&'a [u8]]) -> Option<Request<'a, 'b>>
     ensures some { IfSome result (λ request.
         FitsBasic command (map (λ w. w.now) arguments.now) (order_of request)) }
-    ensures range { IfSome result (λ request. HasKomiInRange (order_of request)) }
     ensures none { IfNone result ((order : BoardOrder)
         → ¬ FitsBasic command (map (λ w. w.now) arguments.now) order) }
 {
@@ -220,7 +213,6 @@ fn fit_basic<'a, 'b>(command: BasicCommand, arguments: &'b [&'a [u8]]) -> Option
 /// The request of a command that asks for an analysis without an argument.
 fn analysis_alone<'a, 'b>(command: AnalysisCommand) -> Option<Request<'a, 'b>>
     ensures some { IfSome result (λ request. AnalysesAlone command (order_of request)) }
-    ensures range { IfSome result (λ request. HasKomiInRange (order_of request)) }
     ensures none { IfNone result ((order : BoardOrder) → ¬ AnalysesAlone command order) }
 {
     let (topic, colour) = match command {
@@ -239,7 +231,6 @@ fn analysis_alone<'a, 'b>(command: AnalysisCommand) -> Option<Request<'a, 'b>>
 /// The request of a command that asks for an analysis, with one argument.
 fn analysis_with_one<'a, 'b>(command: AnalysisCommand, word: &'a [u8]) -> Option<Request<'a, 'b>>
     ensures some { IfSome result (λ request. AnalysesOne command word.now (order_of request)) }
-    ensures range { IfSome result (λ request. HasKomiInRange (order_of request)) }
     ensures none { IfNone result ((order : BoardOrder) → ¬ AnalysesOne command word.now order) }
 {
     let analysis = match command {
@@ -259,7 +250,6 @@ fn fit_analysis<'a, 'b>(
 ) -> Option<Request<'a, 'b>>
     ensures some { IfSome result (λ request.
         FitsAnalysis command (map (λ w. w.now) arguments.now) (order_of request)) }
-    ensures range { IfSome result (λ request. HasKomiInRange (order_of request)) }
     ensures none { IfNone result ((order : BoardOrder)
         → ¬ FitsAnalysis command (map (λ w. w.now) arguments.now) order) }
 {
@@ -274,7 +264,6 @@ fn fit_analysis<'a, 'b>(
 fn fit<'a, 'b>(command: Command, arguments: &'b [&'a [u8]]) -> Option<Request<'a, 'b>>
     ensures some { IfSome result (λ request.
         FitsArguments command (map (λ w. w.now) arguments.now) (order_of request)) }
-    ensures range { IfSome result (λ request. HasKomiInRange (order_of request)) }
     ensures none { IfNone result ((order : BoardOrder)
         → ¬ FitsArguments command (map (λ w. w.now) arguments.now) order) }
 {
@@ -286,8 +275,7 @@ fn fit<'a, 'b>(command: Command, arguments: &'b [&'a [u8]]) -> Option<Request<'a
 
 /// What words ask for.
 pub(crate) fn read_asked<'a, 'b>(words: &'b [&'a [u8]]) -> Asked<'a, 'b>
-    ensures asked { Asks (map (λ w. w.now) words.now) (asked_of result) }
-    ensures range { AsksInRange (asked_of result) }
+    ensures { Asks (map (λ w. w.now) words.now) (asked_of result) }
 {
     let [word, arguments @ ..] = words else {
         return Asked::Unknown;

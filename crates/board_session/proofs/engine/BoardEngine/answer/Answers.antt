@@ -2,7 +2,11 @@ use Rattle.std.proofs.Common.{length, map, sym, ap, ◌∙◌, subst}
 use Rattle.board_session.specs.inner.Viewed.{asked_of}
 use Rattle.gtp_words.specs.Words.{AreWords, HasId}
 use Rattle.board_session.proofs.AnswerLemmas.{answered_words, reply_grown, some_words}
+use Rattle.board_session.proofs.RangeLemmas.{asked_in_range}
 use Rattle.board_session.proofs.engine.BoardEngine.answer.Goals as goal
+
+pub meet-requires-clause-komi : goal.meet-requires-clause-komi
+meet-requires-clause-komi g c = asked_in_range _ (asked_of c.read_asked.result) c.read_asked.ensures
 
 pub returns-clause-answered : goal.returns-clause-answered
 returns-clause-answered g c =
@@ -13,7 +17,7 @@ returns-clause-answered g c =
     (subst (λ t. AreWords t words) (c.deref.ensures.value ∙ c.in_ok-text.ensures) c.in_ok-words.ensures)
     (some_words (λ w. w.now) c.in_ok-words.words.items c.in_ok-words.words.len c.is_empty.result c.if-is_empty.false c.is_empty.ensures (ap length (sym c.deref-2.ensures.value) ∙ c.deref-2.ensures.len))
     (subst (λ ws. HasId (map (λ w. w.now) ws) id rest) c.deref-2.ensures.value c.take_id-headed.ensures)
-    c.read_asked.ensures.asked c.in_ok-answer.ensures.met c.in_ok-answer.ensures.quit
+    c.read_asked.ensures c.in_ok-answer.ensures.met c.in_ok-answer.ensures.quit
 
 pub returns-clause-grown : goal.returns-clause-grown
 returns-clause-grown g c =
