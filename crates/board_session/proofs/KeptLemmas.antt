@@ -10,6 +10,7 @@ use Rattle.std.proofs.lemmas.List.{get_or_push, length_push, take_all, take_more
 use Rattle.std.proofs.lemmas.List.Elements.{All-get_or, All-push, All-take}
 use Rattle.go_grid.specs.declared.grid.Colour.{Colour}
 use Rattle.go_grid.specs.declared.grid.Colour.TheVariants.{Black, White}
+use Rattle.go_play.specs.Place.{IsSameGround}
 use Rattle.board_session.specs.declared.position.MadeMove.{MadeMove}
 use Rattle.board_session.specs.declared.position.Position.{Position}
 use Rattle.board_session.specs.Kept.{IsFit, IsFitAfter, IsModest, IsOnBoard}
@@ -34,6 +35,17 @@ grown_most Black Black n t = omega arith
 grown_most Black White n t = omega arith
 grown_most White Black n t = omega arith
 grown_most White White n t = omega arith
+
+-- stones are taken by a stone that is placed
+pub grown_fits : (c : Colour) (n more : ℕ) (t : Tally) → n ≤ 65535 → more ≡ n → number_of c t + 65535 < 2 ^ 64 → number_of c t + more < 2 ^ 64
+grown_fits c n more t few is room = omega (arith, few, is, room)
+
+pub stone_grows : (a b : Position) (c : Colour) (n : ℕ) → IsSameGround a.board b.board → n ≤ 65535 → b.prisoners ≡ grown c n a.prisoners → b.passes ≡ a.passes → GrowsTo a b
+stone_grows a b c n same few prisoners passes = record {
+  ground = same;
+  prisoners = λ d. let most = grown_most c d n a.prisoners in let now = ap (number_of d) prisoners in omega (arith, few, most, now);
+  passes = λ d. let now = ap (number_of d) passes in omega (arith, now);
+}
 
 -- one move more
 pub fits_next : (start : Position) (n : ℕ) (a b : Position) → IsFitAfter start n a → GrowsTo a b → IsFitAfter start (n + 1) b
