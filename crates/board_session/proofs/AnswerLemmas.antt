@@ -166,3 +166,18 @@ pub answered_words : (files : Option Files) (before now : ℕ) (line id : List �
 answered_words files before now line id [] rest asked a b reply last are some has asks h end = absurd (some refl)
 answered_words files before now line id (word ∷ words) rest asked a b reply last are some has asks h end =
     (record { fate = h.0; answered = (word ∷ words, are, (id, rest, asked, h.1, has, asks, h.2, h.3, end)); noted = h.4 }, h.5)
+
+-- a line with words, or memory that is refused
+module _ {A E : Type 0} (result : Result A E) (reply : A → List ℕ) (quit : A → Bool) (files : Option Files) (before now : ℕ) (line : List ℕ) where
+  pub answered_if_ok : (id : List ℕ) (words rest : List (List ℕ)) (asked : Asked) (a b : BoardEngine) → AreWords (cleaned line) words → words ≢ [] → HasId words id rest → Asks rest asked
+      → IfOk result (λ x. IsMet files before now id asked a (reply x) b) → IfOk result (λ x. quit x ≡ is_last asked) → IfOk result (λ x. IsBoardReply files before now line a (reply x) b (quit x))
+  answered_if_ok id words rest asked a b are some has asks met last = elim result as (λ r. IfOk r (λ x. IsMet files before now id asked a (reply x) b) → IfOk r (λ x. quit x ≡ is_last asked) → IfOk r (λ x. IsBoardReply files before now line a (reply x) b (quit x))) [
+    | Ok x ↦ λ m l. answered_words files before now line id words rest asked a b (reply x) (quit x) are some has asks m l
+    | Err e ↦ λ m l. tt
+  ] met last
+
+  pub grown_if_ok : (a b : BoardEngine) → IfOk result (λ x. IsBoardReply files before now line a (reply x) b (quit x)) → OnErr result (b ≡ a) → length b.state.moves ≤ length a.state.moves + 1
+  grown_if_ok a b answered same = elim result as (λ r. IfOk r (λ x. IsBoardReply files before now line a (reply x) b (quit x)) → OnErr r (b ≡ a) → length b.state.moves ≤ length a.state.moves + 1) [
+    | Ok x ↦ λ h s. reply_grown files before now line (reply x) a b (quit x) h
+    | Err e ↦ λ h s. same_grown a.state b.state (ap (λ x. x.state) s)
+  ] answered same

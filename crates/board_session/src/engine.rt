@@ -260,7 +260,9 @@ impl BoardEngine {
             });
         }
         let headed = take_id(&words);
-        let answer = self.meet(headed.id, read_asked(headed.rest), shelf, steps)?;
-        Ok(answer)
+        let answer = self.meet(headed.id, read_asked(headed.rest), shelf, steps);
+        drop(words);
+        drop(text);
+        answer
     }
 }

@@ -1,25 +1,24 @@
 use Rattle.std.proofs.Common.{length, map, sym, ap, ◌∙◌, subst}
 use Rattle.board_session.specs.inner.Viewed.{asked_of}
 use Rattle.gtp_words.specs.Words.{AreWords, HasId}
-use Rattle.board_session.proofs.AnswerLemmas.{answered_words, reply_grown, some_words}
+use Rattle.board_session.proofs.AnswerLemmas.{answered_if_ok, grown_if_ok, some_words}
 use Rattle.board_session.proofs.RangeLemmas.{asked_in_range}
 use Rattle.board_session.proofs.engine.BoardEngine.answer.Goals as goal
 
-pub meet-requires-clause-komi : goal.meet-requires-clause-komi
-meet-requires-clause-komi g c = asked_in_range _ (asked_of c.read_asked.result) c.read_asked.ensures
+pub meet-answer-requires-clause-komi : goal.meet-answer-requires-clause-komi
+meet-answer-requires-clause-komi g c = asked_in_range _ (asked_of c.read_asked.result) c.read_asked.ensures
 
 pub returns-clause-answered : goal.returns-clause-answered
 returns-clause-answered g c =
-    let files = g.H.Shelf.files c.args.shelf.now in let before = g.H.Shelf.faults c.args.shelf.now in let now = g.H.Shelf.faults c.meet.new.shelf in
+    let files = g.H.Shelf.files c.args.shelf.now in let before = g.H.Shelf.faults c.args.shelf.now in let now = g.H.Shelf.faults c.meet-answer.new.shelf in
     let words = map (λ w. w.now) c.in_ok-words.words.items in let rest = map (λ w. w.now) c.take_id-headed.result.rest.now in let id = c.take_id-headed.result.id.now in
-    let answer = c.in_ok-answer.answer in
-    answered_words files before now c.args.line.now id words rest (asked_of c.read_asked.result) c.args.self.now c.meet.new.self answer.reply answer.quit
+    answered_if_ok c.meet-answer.result (λ x. x.reply) (λ x. x.quit) files before now c.args.line.now id words rest (asked_of c.read_asked.result) c.args.self.now c.meet-answer.new.self
     (subst (λ t. AreWords t words) (c.deref.ensures.value ∙ c.in_ok-text.ensures) c.in_ok-words.ensures)
     (some_words (λ w. w.now) c.in_ok-words.words.items c.in_ok-words.words.len c.is_empty.result c.if-is_empty.false c.is_empty.ensures (ap length (sym c.deref-2.ensures.value) ∙ c.deref-2.ensures.len))
     (subst (λ ws. HasId (map (λ w. w.now) ws) id rest) c.deref-2.ensures.value c.take_id-headed.ensures)
-    c.read_asked.ensures c.in_ok-answer.ensures.met c.in_ok-answer.ensures.quit
+    c.read_asked.ensures c.meet-answer.ensures.met c.meet-answer.ensures.quit
 
 pub returns-clause-grown : goal.returns-clause-grown
 returns-clause-grown g c =
-    reply_grown (g.H.Shelf.files c.args.shelf.now) (g.H.Shelf.faults c.args.shelf.now) (g.H.Shelf.faults c.meet.new.shelf) c.args.line.now c.in_ok-answer.answer.reply
-    c.args.self.now c.meet.new.self c.in_ok-answer.answer.quit (returns-clause-answered g c)
+    grown_if_ok c.meet-answer.result (λ x. x.reply) (λ x. x.quit) (g.H.Shelf.files c.args.shelf.now) (g.H.Shelf.faults c.args.shelf.now) (g.H.Shelf.faults c.meet-answer.new.shelf) c.args.line.now
+    c.args.self.now c.meet-answer.new.self (returns-clause-answered g c) c.meet-answer.ensures.same
