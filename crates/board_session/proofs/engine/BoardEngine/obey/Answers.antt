@@ -36,3 +36,16 @@ returns-in-Analyse-clause-obeyed g c =
     reported_obeyed inside.limits inside.loads inside.session inside.session c.args.self.now c.self-in-Analyse.view_is (g.H.Shelf.files c.args.shelf.now) (g.H.Shelf.faults c.args.shelf.now) id
     (order_of c.args.request) analysis (ap order_of c.in-Analyse.is) c.report.result
     (subst (λ l. IfOk c.report.result (IsReported inside.limits.cycles l analysis id inside.session)) c.of_game-limits-in-Analyse.ensures c.report.ensures.reported)
+
+pub returns-in-LoadSgf-clause-same : goal.returns-in-LoadSgf-clause-same
+returns-in-LoadSgf-clause-same g c = c.load_file.ensures.same
+
+pub returns-in-LoadSgf-clause-same_files : goal.returns-in-LoadSgf-clause-same_files
+returns-in-LoadSgf-clause-same_files g c = c.load_file.ensures.same_files
+
+pub returns-in-LoadSgf-clause-later : goal.returns-in-LoadSgf-clause-later
+returns-in-LoadSgf-clause-later g c = c.load_file.ensures.later
+
+pub returns-in-GenMove-clause-same : goal.returns-in-GenMove-clause-same
+returns-in-GenMove-clause-same g c =
+    let inside = c.self.inside in plain_same inside.limits inside.loads inside.session c.generate.new.self c.args.self.now c.self.view_is c.generate.result c.generate.ensures.same
