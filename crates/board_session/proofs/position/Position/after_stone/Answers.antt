@@ -1,4 +1,4 @@
-use Rattle.std.proofs.Common.{◌≤◌, arith, rules, sym, subst, ◌∙◌, ap, Ok, refl}
+use Rattle.std.proofs.Common.{◌≤◌, rules, subst, ◌∙◌, ap, Ok, refl}
 use Rattle.go_play.specs.Place.{PlacesStone}
 use Rattle.board_session.proofs.KeptLemmas.{grown_fits, stone_grows}
 use Rattle.board_session.specs.Tallies.{grown}
