@@ -10,7 +10,7 @@ use Rattle.board_session.specs.declared.command.BasicCommand.TheVariants.{Protoc
 use Rattle.board_session.specs.declared.command.Command.{Command}
 use Rattle.board_session.specs.declared.command.Command.TheVariants.{Basic, Analyse}
 use Rattle.board_session.specs.inner.Doing.{AsksInRange, HasKomiInRange}
-use Rattle.board_session.specs.Orders.{AnalysesAlone, AnalysesOne, Asked, Asks, BoardOrder, FitsAlone, FitsAnalysis, FitsArguments, FitsBasic, FitsFew, FitsOne, FitsThree, FitsTwo}
+use Rattle.board_session.specs.Orders.{AnalysesAlone, AnalysesOne, Asked, Asks, BoardOrder, FitsAlone, FitsArguments, FitsBasic, FitsFew, FitsOne, FitsThree, FitsTwo}
 use Rattle.board_session.specs.Orders.Asked.{something, unknown, misfit}
 
 small_fraction : (bytes : List ℕ) (digits more : ℕ) → IsKomiFraction bytes digits more → more ≤ 1
