@@ -35,8 +35,10 @@ uncovered-push s Ts xs os vs y l none u = record {
   ids = ids-append Ts vs (y ∷ []) u.ids (ids-one Ts y l);
   among = λ X h. elim (append-has Ts vs (y ∷ []) X h) [
     | inl a ↦ (has-append_left Ts xs (y ∷ []) X (u.among X a).0, (u.among X a).1)
-    | inr a ↦ (has-append_right Ts xs (y ∷ []) X a,
-        subst (λ t. (Y : Tree) → Has (pick Ts os) Y → Covers s t Y → ⊥) (sym (one Ts y X a)) (none-list Ts os (λ Z. Covers s (tree_at Ts y) Z) none))
+    | inr a ↦ (
+      has-append_right Ts xs (y ∷ []) X a,
+      subst (λ t. (Y : Tree) → Has (pick Ts os) Y → Covers s t Y → ⊥) (sym (one Ts y X a)) (none-list Ts os (λ Z. Covers s (tree_at Ts y) Z) none),
+    )
   ];
   rest = λ X h. elim (append-has Ts xs (y ∷ []) X h) [
     | inl a ↦ elim (u.rest X a) [ inl k ↦ inl k | inr k ↦ inr (has-append_left Ts vs (y ∷ []) X k) ]

@@ -187,7 +187,15 @@ pub fn canonical_of_groups(
     ensures comparisons { AreFormComparisonsRight store.new comparisons.new }
     ensures kept { Extends store.old store.new }
 {
-    canonical_by(alloc, store, comparisons, left, right, Some(cuts), parts_limit)
+    canonical_by(
+        alloc,
+        store,
+        comparisons,
+        left,
+        right,
+        Some(cuts),
+        parts_limit,
+    )
 }
 
 /// The canonical form of the form with these options (Conway). `Bounds` where its value is a number past the bounds of a
