@@ -5,6 +5,7 @@ ghost use Rattle.std.specs.Prelude.{◌<◌, length};
 ghost use Rattle.go_grid.specs.Chain.{IsSettled};
 ghost use Rattle.benson_attack.specs.Attacks.{AreAttacks};
 
+use crate::asserts::none_wrong;
 use benson_attack::{AttackError, Attacks, attack};
 use benson_life::Territory;
 use drawings::board;
@@ -92,7 +93,7 @@ fn wrong_attack(alloc: Global) -> Option<usize> {
 
 #[test]
 fn attacks(rt: HostRuntime) {
-    assert_eq!(rt; wrong_attack(rt.alloc()), None);
+    none_wrong(&rt, wrong_attack(rt.alloc()));
 }
 
 /// Whether a stone of the colour is gone from a copy of the board after the placings, which are all legal.

@@ -4,6 +4,7 @@ ghost use Rattle.std.specs.Prelude.{◌≡◌, ◌<◌, ◌≤◌, IfSome, lengt
 ghost use Rattle.go_grid.specs.Region.{Region};
 ghost use Rattle.local_value.specs.BudgetValues.{IsReturnGraphOf};
 
+use crate::asserts::none_wrong;
 use drawings::{Drawing, region};
 use game_canon::FormError;
 use game_store::{GameId, Store};
@@ -197,10 +198,10 @@ fn wrong_refusal(alloc: Global) -> Option<usize> {
 
 #[test]
 fn layers(rt: HostRuntime) {
-    assert_eq!(rt; wrong_layers(rt.alloc()), None);
+    none_wrong(&rt, wrong_layers(rt.alloc()));
 }
 
 #[test]
 fn refusals(rt: HostRuntime) {
-    assert_eq!(rt; wrong_refusal(rt.alloc()), None);
+    none_wrong(&rt, wrong_refusal(rt.alloc()));
 }

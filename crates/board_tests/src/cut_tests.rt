@@ -2,6 +2,7 @@
 
 ghost use Rattle.go_grid.specs.Chain.{IsSettled};
 
+use crate::asserts::none_wrong;
 use benson_life::{alive, counted};
 use drawings::board;
 use go_grid::{Board, Colour, Point, Region, Touch};
@@ -121,7 +122,7 @@ fn wrong_row(alloc: Global) -> Option<usize> {
 
 #[test]
 fn cuts(rt: HostRuntime) {
-    assert_eq!(rt; wrong_row(rt.alloc()), None);
+    none_wrong(&rt, wrong_row(rt.alloc()));
 }
 
 /// The numbers of a whole empty board's regions and of the first one's points.

@@ -2,6 +2,7 @@
 
 ghost use Rattle.std.specs.Prelude.{◌≡◌, ◌<◌};
 
+use crate::asserts::none_wrong;
 use drawings::{Drawing, region};
 use go_grid::Region;
 use local_graph::{GraphError, build};
@@ -239,5 +240,5 @@ fn wrong_row(alloc: Global) -> Option<usize> {
 
 #[test]
 fn shows_the_soonest_cycle(rt: HostRuntime) {
-    assert_eq!(rt; wrong_row(rt.alloc()), None);
+    none_wrong(&rt, wrong_row(rt.alloc()));
 }

@@ -1,5 +1,6 @@
 //! Boards with declared points, drawn row by row: X and O are stones, b and w points declared for Black and for White.
 
+use crate::asserts::none_wrong;
 use benson_attack::{AttackError, attack};
 use benson_life::{Life, Territory};
 use drawings::declared_board;
@@ -144,7 +145,7 @@ fn wrong_row(alloc: Global) -> Option<usize> {
 
 #[test]
 fn declared_points_count(rt: HostRuntime) {
-    assert_eq!(rt; wrong_row(rt.alloc()), None);
+    none_wrong(&rt, wrong_row(rt.alloc()));
 }
 
 /// A board by its columns and its cells, and the lowest point that isn't settled.
@@ -175,7 +176,7 @@ fn wrong_unsettled(alloc: Global) -> Option<usize> {
 
 #[test]
 fn declared_points_are_closed_off(rt: HostRuntime) {
-    assert_eq!(rt; wrong_unsettled(rt.alloc()), None);
+    none_wrong(&rt, wrong_unsettled(rt.alloc()));
 }
 
 /// The attack on the stone at a point of a settled board: its placings, or none where the stone is alive or there is none.
@@ -231,5 +232,5 @@ fn wrong_attack(alloc: Global) -> Option<usize> {
 
 #[test]
 fn attacks_pass_declared_points_by(rt: HostRuntime) {
-    assert_eq!(rt; wrong_attack(rt.alloc()), None);
+    none_wrong(&rt, wrong_attack(rt.alloc()));
 }

@@ -2,6 +2,7 @@
 
 ghost use Rattle.std.specs.Prelude.{◌≡◌, ◌<◌};
 
+use crate::asserts::none_wrong;
 use drawings::{Drawing, region};
 use go_grid::{Cell, Colour, Region, Touch};
 use local_play::{Links, Local, LocalMove, Steps, list_moves};
@@ -328,5 +329,5 @@ fn wrong_drawing(alloc: Global) -> Option<usize> {
 
 #[test]
 fn lists_the_moves_of_the_plain_body(rt: HostRuntime) {
-    assert_eq!(rt; wrong_drawing(rt.alloc()), None);
+    none_wrong(&rt, wrong_drawing(rt.alloc()));
 }

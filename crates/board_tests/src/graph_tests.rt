@@ -2,6 +2,7 @@
 
 ghost use Rattle.std.specs.Prelude.{◌≡◌, ◌<◌};
 
+use crate::asserts::none_wrong;
 use drawings::{Drawing, region};
 use go_grid::{Colour, Region};
 use local_graph::{Graph, GraphError, build};
@@ -146,7 +147,7 @@ fn wrong_graph(alloc: Global) -> Option<usize> {
 
 #[test]
 fn builds(rt: HostRuntime) {
-    assert_eq!(rt; wrong_graph(rt.alloc()), None);
+    none_wrong(&rt, wrong_graph(rt.alloc()));
 }
 
 /// Whether a move is of the colour, at the place, and takes so many stones.
@@ -198,5 +199,5 @@ static MOVES: [(Drawing, Placed, Placed); 2] = [
 
 #[test]
 fn expands(rt: HostRuntime) {
-    assert_eq!(rt; wrong_moves(rt.alloc()), None);
+    none_wrong(&rt, wrong_moves(rt.alloc()));
 }

@@ -1,5 +1,6 @@
 //! Groups of worked boards, beside a plain closure under links.
 
+use crate::asserts::none_wrong;
 use benson_life::{alive, counted, groups};
 use drawings::board;
 use go_grid::{Board, Colour, NearPoints, Point, Points, Size, fill};
@@ -141,5 +142,5 @@ fn wrong_row(alloc: Global) -> Option<usize> {
 
 #[test]
 fn groups_are_counted(rt: HostRuntime) {
-    assert_eq!(rt; wrong_row(rt.alloc()), None);
+    none_wrong(&rt, wrong_row(rt.alloc()));
 }

@@ -2,6 +2,8 @@
 #![tactic(auto)]
 
 #[cfg(test)]
+mod asserts;
+#[cfg(test)]
 mod attack_tests;
 #[cfg(test)]
 mod budget_tests;

@@ -1,5 +1,6 @@
 //! Worked boards, drawn row by row with X for black and O for white.
 
+use crate::asserts::none_wrong;
 use benson_life::{alive, counted, groups, held};
 use drawings::{board, cell_of};
 use go_grid::{Board, Colour, Point};
@@ -94,7 +95,7 @@ fn wrong_placing(alloc: Global) -> Option<usize> {
 
 #[test]
 fn placings(rt: HostRuntime) {
-    assert_eq!(rt; wrong_placing(rt.alloc()), None);
+    none_wrong(&rt, wrong_placing(rt.alloc()));
 }
 
 /// Columns and rows of a board, its drawing, Black's alive stones and counted points on it, and what Black holds.
@@ -189,7 +190,7 @@ fn wrong_life(alloc: Global) -> Option<usize> {
 
 #[test]
 fn lives_and_counts(rt: HostRuntime) {
-    assert_eq!(rt; wrong_life(rt.alloc()), None);
+    none_wrong(&rt, wrong_life(rt.alloc()));
 }
 
 /// The numbers of Black's alive stones and counted points, what Black holds, and its groups, where the board is settled.

@@ -1,5 +1,6 @@
 //! The fakes and the adapters of the outside.
 
+use crate::asserts::none_wrong;
 use desk_io::{
     Failed, FileShelf, LoadError, Loaded, MemoryShelf, MemorySink, MemorySource, Shelf, Sink,
     Source, StdSink, StdSource,
@@ -65,7 +66,7 @@ fn fails_once(failing: &mut MemorySink) -> bool {
 #[test]
 fn memory_sink_takes_what_fits(rt: HostRuntime) -> Result<(), Fail> {
     let alloc = rt.alloc();
-    assert_eq!(rt; wrong_write(alloc), None);
+    none_wrong(&rt, wrong_write(alloc));
     let mut failing = MemorySink::with_room(alloc, 4, vec![in alloc; 0]?)?;
     assert!(rt; fails_once(&mut failing));
     Ok(())

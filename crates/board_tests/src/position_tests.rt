@@ -2,6 +2,7 @@
 
 ghost use Rattle.std.specs.Prelude.{◌≤◌, length};
 
+use crate::asserts::none_wrong;
 use go_grid::{Board, Cell, Colour, Point};
 use sgf_go::{GoError, Settings, Setup, SetupFault, position, read_komi};
 use sgf_tree::read;
@@ -167,7 +168,7 @@ fn wrong_komi() -> Option<usize> {
 
 #[test]
 fn komi(rt: HostRuntime) {
-    assert_eq!(rt; wrong_komi(), None);
+    none_wrong(&rt, wrong_komi());
 }
 
 /// A file, its board and the side to move, where nothing is set, and there are no prisoners and no komi.
@@ -346,22 +347,22 @@ fn wrong_case(alloc: Global) -> Option<usize> {
 
 #[test]
 fn plain_positions(rt: HostRuntime) {
-    assert_eq!(rt; wrong_plain(rt.alloc()), None);
+    none_wrong(&rt, wrong_plain(rt.alloc()));
 }
 
 #[test]
 fn positions_of_lines_that_end(rt: HostRuntime) {
-    assert_eq!(rt; wrong_ended(rt.alloc()), None);
+    none_wrong(&rt, wrong_ended(rt.alloc()));
 }
 
 #[test]
 fn marked_positions(rt: HostRuntime) {
-    assert_eq!(rt; wrong_marked(rt.alloc()), None);
+    none_wrong(&rt, wrong_marked(rt.alloc()));
 }
 
 #[test]
 fn other_positions(rt: HostRuntime) {
-    assert_eq!(rt; wrong_case(rt.alloc()), None);
+    none_wrong(&rt, wrong_case(rt.alloc()));
 }
 
 /// Whether a file has a board of so many points, the last of them black.

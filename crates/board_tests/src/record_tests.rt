@@ -1,5 +1,6 @@
 //! Worked files.
 
+use crate::asserts::none_wrong;
 use sgf_tree::{Node, Property, SgfError, TreeFault, read};
 use std::alloc::{AllocError, Global};
 
@@ -71,7 +72,7 @@ fn wrong_line(alloc: Global) -> Option<usize> {
 
 #[test]
 fn main_lines(rt: HostRuntime) {
-    assert_eq!(rt; wrong_line(rt.alloc()), None);
+    none_wrong(&rt, wrong_line(rt.alloc()));
 }
 
 /// A record and why it is refused.
@@ -117,7 +118,7 @@ fn wrong_fault(alloc: Global) -> Option<usize> {
 
 #[test]
 fn faults(rt: HostRuntime) {
-    assert_eq!(rt; wrong_fault(rt.alloc()), None);
+    none_wrong(&rt, wrong_fault(rt.alloc()));
 }
 
 /// So many bytes of a file of brackets that aren't closed, and why they are refused.
@@ -146,7 +147,7 @@ fn depth(rt: HostRuntime) {
             *byte = b';';
         }
     }
-    assert_eq!(rt; wrong_depth(rt.alloc(), &file), None);
+    none_wrong(&rt, wrong_depth(rt.alloc(), &file));
 }
 
 /// The number of nodes of the longest file of nodes.

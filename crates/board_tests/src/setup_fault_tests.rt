@@ -1,5 +1,6 @@
 //! What is wrong with records.
 
+use crate::asserts::none_wrong;
 use crate::position_tests::fault_in;
 use go_grid::Point;
 use sgf_go::SetupFault;
@@ -109,10 +110,10 @@ fn wrong_mark_fault(alloc: Global) -> Option<usize> {
 
 #[test]
 fn faults(rt: HostRuntime) {
-    assert_eq!(rt; wrong_fault(rt.alloc()), None);
+    none_wrong(&rt, wrong_fault(rt.alloc()));
 }
 
 #[test]
 fn mark_faults(rt: HostRuntime) {
-    assert_eq!(rt; wrong_mark_fault(rt.alloc()), None);
+    none_wrong(&rt, wrong_mark_fault(rt.alloc()));
 }

@@ -2,6 +2,7 @@
 
 ghost use Rattle.std.specs.Prelude.{◌≤◌, length};
 
+use crate::asserts::none_wrong;
 use drawings::{JoinedDrawing, joined_region};
 use local_play::start;
 use region_book::{Shape, Turn, shape};
@@ -92,6 +93,6 @@ fn wrong_image(alloc: Global, long: &(Shape, Turn)) -> Option<usize> {
 #[test]
 fn images_have_the_shape(rt: HostRuntime) -> Result<(), AllocError> {
     let long = shape_of(rt.alloc(), LONG)?;
-    assert_eq!(rt; wrong_image(rt.alloc(), &long), None);
+    none_wrong(&rt, wrong_image(rt.alloc(), &long));
     Ok(())
 }

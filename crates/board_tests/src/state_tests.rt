@@ -2,6 +2,7 @@
 
 ghost use Rattle.std.specs.Prelude.{◌≡◌, ◌^◌, ◌<◌, true};
 
+use crate::asserts::none_wrong;
 use drawings::board;
 use go_grid::{Colour, Point};
 use std::alloc::{AllocError, Global};
@@ -215,7 +216,7 @@ fn wrong_opening(alloc: Global) -> Option<usize> {
 
 #[test]
 fn openings(rt: HostRuntime) {
-    assert_eq!(rt; wrong_opening(rt.alloc()), None);
+    none_wrong(&rt, wrong_opening(rt.alloc()));
 }
 
 /// Moves one after the other in a game with what each answers, and the purses and the token after all of them.
@@ -310,7 +311,7 @@ fn wrong_play(alloc: Global) -> Option<usize> {
 
 #[test]
 fn plays(rt: HostRuntime) {
-    assert_eq!(rt; wrong_play(rt.alloc()), None);
+    none_wrong(&rt, wrong_play(rt.alloc()));
 }
 
 /// A game, a number of plies, and the winner within so many by plain recursion.
@@ -377,5 +378,5 @@ fn wrong_winner(alloc: Global) -> Option<usize> {
 
 #[test]
 fn winners(rt: HostRuntime) {
-    assert_eq!(rt; wrong_winner(rt.alloc()), None);
+    none_wrong(&rt, wrong_winner(rt.alloc()));
 }

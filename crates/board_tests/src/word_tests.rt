@@ -1,5 +1,6 @@
 //! Command lines.
 
+use crate::asserts::none_wrong;
 use gd_words::{Command, CycleQuestion, Job, Usage, read};
 use go_grid::Colour;
 use sgf_go::Settings;
@@ -315,10 +316,10 @@ fn wrong_faulty(alloc: Global) -> Option<usize> {
 
 #[test]
 fn jobs(rt: HostRuntime) {
-    assert_eq!(rt; wrong_job(rt.alloc()), None);
+    none_wrong(&rt, wrong_job(rt.alloc()));
 }
 
 #[test]
 fn faulty_words(rt: HostRuntime) {
-    assert_eq!(rt; wrong_faulty(rt.alloc()), None);
+    none_wrong(&rt, wrong_faulty(rt.alloc()));
 }

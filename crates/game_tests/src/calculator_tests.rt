@@ -1,5 +1,6 @@
 //! Worked lines.
 
+use crate::asserts::none_wrong;
 use game_calc::{CalcError, CalcFault, answer};
 use std::alloc::{AllocError, Global};
 
@@ -59,7 +60,7 @@ static VALUES: [Answered; 7] = [
 
 #[test]
 fn values(rt: HostRuntime) {
-    assert_eq!(rt; wrong_answer(rt.alloc(), &VALUES), None);
+    none_wrong(&rt, wrong_answer(rt.alloc(), &VALUES));
 }
 
 /// Expressions and the orders of their games.
@@ -113,7 +114,7 @@ static ORDERS: [Answered; 41] = [
 /// Identities and orders of the field (Siegel, Combinatorial Game Theory), nim addition among them.
 #[test]
 fn orders(rt: HostRuntime) {
-    assert_eq!(rt; wrong_answer(rt.alloc(), &ORDERS), None);
+    none_wrong(&rt, wrong_answer(rt.alloc(), &ORDERS));
 }
 
 /// An expression, the most parts of a form, and why it is refused.
@@ -169,7 +170,7 @@ fn wrong_refusal(alloc: Global) -> Option<usize> {
 
 #[test]
 fn refusals(rt: HostRuntime) {
-    assert_eq!(rt; wrong_refusal(rt.alloc()), None);
+    none_wrong(&rt, wrong_refusal(rt.alloc()));
 }
 
 /// What is written of 1.

@@ -2,6 +2,7 @@
 
 ghost use Rattle.std.specs.Prelude.{◌<◌, length, IfSome};
 
+use crate::asserts::none_wrong;
 use game_canon::{Order, compare, negate};
 use game_store::{GameId, Store};
 use game_text::read;
@@ -86,10 +87,10 @@ fn wrong_negative(alloc: Global) -> Option<usize> {
 
 #[test]
 fn orders(rt: HostRuntime) {
-    assert_eq!(&rt; wrong_order(rt.alloc()), None);
+    none_wrong(&rt, wrong_order(rt.alloc()));
 }
 
 #[test]
 fn negatives(rt: HostRuntime) {
-    assert_eq!(&rt; wrong_negative(rt.alloc()), None);
+    none_wrong(&rt, wrong_negative(rt.alloc()));
 }

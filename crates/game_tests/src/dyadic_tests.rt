@@ -1,5 +1,6 @@
 //! Fractions, halves and the simplest number between two.
 
+use crate::asserts::none_wrong;
 use dyadic_num::{Dyadic, EXPONENT, simplest_between};
 
 /// The numerator and the exponent of the simplest number between two fractions.
@@ -45,7 +46,7 @@ fn wrong_fraction() -> Option<usize> {
 
 #[test]
 fn fractions(rt: HostRuntime) {
-    assert_eq!(rt; wrong_fraction(), None);
+    none_wrong(&rt, wrong_fraction());
 }
 
 /// Two bounds, and the simplest number between them.
@@ -72,7 +73,7 @@ fn wrong_bounds() -> Option<usize> {
 
 #[test]
 fn simplest(rt: HostRuntime) {
-    assert_eq!(rt; wrong_bounds(), None);
+    none_wrong(&rt, wrong_bounds());
 }
 
 /// Whether the least number above 0 has no half, adds up to 0 with its negative, and is greater than 0.

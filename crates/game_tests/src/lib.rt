@@ -2,6 +2,8 @@
 #![tactic(auto)]
 
 #[cfg(test)]
+mod asserts;
+#[cfg(test)]
 mod calculator_tests;
 #[cfg(test)]
 mod comparison_tests;

@@ -1,5 +1,6 @@
 //! Worked texts.
 
+use crate::asserts::none_wrong;
 use dyadic_num::Dyadic;
 use game_canon::FormError;
 use game_store::{GameId, Store};
@@ -92,7 +93,7 @@ fn wrong_text(alloc: Global) -> Option<usize> {
 
 #[test]
 fn texts(rt: HostRuntime) {
-    assert_eq!(rt; wrong_text(rt.alloc()), None);
+    none_wrong(&rt, wrong_text(rt.alloc()));
 }
 
 /// The text of a game in braces, and with names.
@@ -132,7 +133,7 @@ fn wrong_edition(alloc: Global) -> Option<usize> {
 /// Both texts of a game are read as one id, and names beside other games.
 #[test]
 fn both_editions(rt: HostRuntime) {
-    assert_eq!(rt; wrong_edition(rt.alloc()), None);
+    none_wrong(&rt, wrong_edition(rt.alloc()));
 }
 
 /// A text, the most bytes of what is written of it, and that text, or none where it is longer.
@@ -163,7 +164,7 @@ fn wrong_length(alloc: Global) -> Option<usize> {
 
 #[test]
 fn lengths(rt: HostRuntime) {
-    assert_eq!(rt; wrong_length(rt.alloc()), None);
+    none_wrong(&rt, wrong_length(rt.alloc()));
 }
 
 /// A text, the most parts of a form, and why it is refused.
@@ -230,7 +231,7 @@ fn wrong_refusal(alloc: Global) -> Option<usize> {
 
 #[test]
 fn refusals(rt: HostRuntime) {
-    assert_eq!(rt; wrong_refusal(rt.alloc()), None);
+    none_wrong(&rt, wrong_refusal(rt.alloc()));
 }
 
 /// So many opening braces.

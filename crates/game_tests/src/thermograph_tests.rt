@@ -2,6 +2,7 @@
 
 ghost use Rattle.std.specs.Prelude.{◌<◌, length, IfSome};
 
+use crate::asserts::none_wrong;
 use dyadic_num::{Dyadic, EXPONENT};
 use game_stops::{left_stop, right_stop};
 use game_store::{GameId, Store};
@@ -166,7 +167,7 @@ fn wrong_stops(alloc: Global) -> Option<usize> {
 
 #[test]
 fn stops_of_games(rt: HostRuntime) {
-    assert_eq!(&rt; wrong_stops(rt.alloc()), None);
+    none_wrong(&rt, wrong_stops(rt.alloc()));
 }
 
 /// Whether the thermograph is the one of the row.
@@ -200,7 +201,7 @@ fn wrong_thermograph(alloc: Global) -> Option<usize> {
 
 #[test]
 fn thermographs(rt: HostRuntime) {
-    assert_eq!(&rt; wrong_thermograph(rt.alloc()), None);
+    none_wrong(&rt, wrong_thermograph(rt.alloc()));
 }
 
 /// Whether the thermograph of the game that a text names is past the bounds.
