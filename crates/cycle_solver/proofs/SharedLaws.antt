@@ -1,5 +1,5 @@
 -- Regions are solved one after the other, each by the game of the first that has its shape.
-use Rattle.std.proofs.Common.{ℕ, suc, ◌≡◌, ◌+◌, ◌-◌, ◌<◌, ◌≤◌, arith, inl, inr, min, refl, sym, ap, ◌∙◌, subst, Bool, true, false, List, [], ◌∷◌, ◌++◌, map, length, get_or, Contains, IsTrue, MatchOption, Option, Some, None}
+use Rattle.std.proofs.Common.{ℕ, All, suc, ◌≡◌, ◌+◌, ◌-◌, ◌<◌, ◌≤◌, arith, inl, inr, min, refl, sym, ap, ◌∙◌, subst, Bool, true, false, List, [], ◌∷◌, ◌++◌, map, length, get_or, Contains, IsTrue, MatchOption, Option, Some, None}
 use Rattle.std.proofs.lemmas.Bool.{cases_lt}
 use Rattle.std.proofs.lemmas.List.{get_or_append_left, get_or_default, get_or-map, get_or_past, get_or_push, length-append, length-map, length_push, map-append}
 use Rattle.std.proofs.lemmas.List.Elements.{Contains-push_cases}
@@ -7,7 +7,7 @@ use Rattle.go_grid.specs.declared.grid.Colour.{Colour}
 use Rattle.go_grid.specs.Region.{Region, IsRegion}
 use Rattle.region_book.specs.Image.{IsShape}
 use Rattle.region_book.specs.Law.{Meet, differ}
-use Rattle.region_book.specs.Shape.{Carries}
+use Rattle.region_book.specs.Shape.{Carries, colour_after}
 use Rattle.region_book.specs.declared.shapes.Turn.{Turn}
 use Rattle.region_book.specs.declared.spots.Spot.{Spot}
 use Rattle.region_book.specs.declared.symmetry.Symmetry.{Symmetry}
@@ -30,11 +30,12 @@ use Rattle.cycle_solver.specs.declared.shapes.Kind.{Kind}
 use Rattle.cycle_solver.specs.declared.views.View.{View}
 use Rattle.cycle_solver.specs.GameLists.{game_at, layers_for, no_game}
 use Rattle.cycle_solver.specs.Games.{AreSolvedBelow, IsSolvedBy}
-use Rattle.cycle_solver.specs.Turned.{id_after, layers_after, negative_in, or_zero, own, own_edges, own_game, own_graph, shown}
+use Rattle.cycle_solver.specs.Held.{ids_with}
+use Rattle.cycle_solver.specs.Turned.{id_after, layers_after, negative_in, or_zero, own, own_edges, own_game, own_graph, own_number, shown}
 use Rattle.cycle_solver.specs.inner.Shared.{AreKinds, AreLayersOfIds, AreNoted, AreNotedBy, HasShapeAt, IsKind, IsNoted, IsViewFor, KeepsNotes, SharesBelow}
 use Rattle.cycle_solver.proofs.GameLaws.{game_later, none_solved, one_more}
 use Rattle.cycle_solver.proofs.NoteLaws.{all_noted-on}
-use Rattle.cycle_solver.proofs.OwnGameLaws.{own_solved}
+use Rattle.cycle_solver.proofs.OwnGameLaws.{ids_own, layers_own, own_solved}
 use Rattle.cycle_solver.proofs.OwnGraphLaws.{own_from, own_has}
 
 -- What is shown stays as it was while games and notes are added.
@@ -248,16 +249,25 @@ none_shared limits most regions book kinds Ts games views notes none = record {
 
 -- What is asked of a region's game.
 
+-- the region's view
+pub view_known : (book : Book) (k : ℕ) (games : List RegionGame) → shown book ≡ games → k < length games → k < length book.views.items
+view_known book k games seen lt =
+    omega (arith, lt, ap (λ gs. length gs) seen, length-map book.views.items (λ w. own_game book.negatives.items w (game_at book.games.items w.game)))
+
+-- the region's game, by the one that its view names
+pub game_shown : (book : Book) (k : ℕ) (v : View) (game : RegionGame) → k < length book.views.items → v.game < length book.games.items
+    → v ≡ get_or book.views.items k v → game ≡ get_or book.games.items v.game game → game_at (shown book) k ≡ own_game book.negatives.items v game
+game_shown book k v game lt inside view is =
+    get_or-map (λ w. own_game book.negatives.items w (game_at book.games.items w.game)) book.views.items k v no_game lt
+    ∙ (λ i. own_game book.negatives.items (sym view i) (game_at book.games.items (sym view i).game))
+    ∙ ap (own_game book.negatives.items v) (get_or_default book.games.items v.game no_game game inside ∙ sym is)
+
 -- the edges of a place of the region's game
 pub edges_shown : (book : Book) (k place : ℕ) (v : View) (game : RegionGame) → k < length book.views.items → v.game < length book.games.items
     → v ≡ get_or book.views.items k v → game ≡ get_or book.games.items v.game game
     → edges_at (game_at (shown book) k).graph.edges place ≡ own_edges v (edges_at game.graph.edges place)
 edges_shown book k place v game lt inside view is =
-    let shown_at : game_at (shown book) k ≡ own_game book.negatives.items v game =
-    get_or-map (λ w. own_game book.negatives.items w (game_at book.games.items w.game)) book.views.items k v no_game lt
-    ∙ (λ i. own_game book.negatives.items (sym view i) (game_at book.games.items (sym view i).game))
-    ∙ ap (own_game book.negatives.items v) (get_or_default book.games.items v.game no_game game inside ∙ sym is) in
-    ap (λ g. edges_at g.graph.edges place) shown_at ∙ elim (cases_lt place (length game.graph.edges))
+    ap (λ g. edges_at g.graph.edges place) (game_shown book k v game lt inside view is) ∙ elim (cases_lt place (length game.graph.edges))
     as (λ _. edges_at (map (own_edges v) game.graph.edges) place ≡ own_edges v (edges_at game.graph.edges place)) [
       | inl less ↦ get_or-map (own_edges v) game.graph.edges place [] [] less
       | inr le ↦
@@ -274,3 +284,28 @@ stones_over r c p v es fs same None none = λ e among stone.
     none f there (subst (IsStoneAt r c p) is stone)
 stones_over r c p v es fs same (Some e) (f, there, is, stone) =
     (subst (Contains fs) (sym is) (subst (λ zs. Contains zs (own v f)) (sym same) (own_has v f es there)), stone)
+
+-- The region's game, by its view and the game that the view names.
+module _ (book : Book) (k : ℕ) {games : List RegionGame} (seen : shown book ≡ games) (lt : k < length games)
+    (right : All (λ w. w.game < length book.games.items) book.views.items) where
+  pub view_inside : (v : View) → v ≡ get_or book.views.items k v → v.game < length book.games.items
+  view_inside v view = subst (λ w. w.game < length book.games.items) (sym view) (right k v (view_known book k games seen lt))
+
+  module _ (v : View) (game : RegionGame) (view : v ≡ get_or book.views.items k v) (is : game ≡ get_or book.games.items v.game game) where
+    pub game_seen : game_at games k ≡ own_game book.negatives.items v game
+    game_seen = ap (λ gs. game_at gs k) (sym seen) ∙ game_shown book k v game (view_known book k games seen lt) (view_inside v view) view is
+
+    pub ids_seen : (c : Colour) (budget : ℕ) (ids : List ℕ) → ids ≡ ids_with game (colour_after v.colours c) budget
+        → ids_with (game_at games k) c budget ≡ map (id_after v.colours book.negatives.items) ids
+    ids_seen c budget ids here =
+        ap (λ g. ids_with g c budget) game_seen ∙ ids_own book.negatives.items v game c budget ∙ ap (map (id_after v.colours book.negatives.items)) (sym here)
+
+    -- its positions are as many
+    pub positions_seen : length (game_at games k).graph.positions ≡ length game.graph.positions
+    positions_seen = ap (λ g. length g.graph.positions) game_seen ∙ length-map game.graph.positions (own_number v)
+
+    -- as many layers as the game has for the colour that it is there
+    pub layers_seen : (c : Colour) → length (layers_for (game_at games k) c) ≡ length (layers_for game (colour_after v.colours c))
+    layers_seen c =
+        ap (λ g. length (layers_for g c)) game_seen ∙ ap (λ layers. length layers) (layers_own book.negatives.items v game c)
+        ∙ length-map (layers_for game (colour_after v.colours c)) (map (id_after v.colours book.negatives.items))
