@@ -1,4 +1,5 @@
-use Rattle.std.proofs.Common.{◌≡◌, ◌∙◌, ap, length, refl, subst, sym}
+use Rattle.std.proofs.Common.{◌≡◌, ◌<◌, ◌∙◌, IfSome, ap, arith, length, refl, subst, sym}
+use Rattle.whole_rules.specs.WholeGame.{Applies}
 use Rattle.cycle_solver.specs.Changes.{places_after}
 use Rattle.cycle_solver.specs.Held.{IsKept}
 use Rattle.cycle_solver.specs.Keeping.{HasRoom}
@@ -26,3 +27,34 @@ invariant_of-self c =
       none_answered c.clear.ensures.items,
       none_answered c.clear-2.ensures.items,
     )
+
+pub put_values-stone-requires-clause-low : goal.put_values-stone-requires-clause-low
+put_values-stone-requires-clause-low c =
+    let kept = c.self.invariant.0 in
+    seen_lent kept.held kept.low_sum c.deref.ensures.value refl c.deref-2.ensures.value c.deref_mut.ensures.value
+
+pub put_values-stone-requires-clause-high : goal.put_values-stone-requires-clause-high
+put_values-stone-requires-clause-high c =
+    let kept = c.self.invariant.0 in
+    seen_lent kept.held kept.high_sum c.deref.ensures.value refl c.deref-2.ensures.value c.deref_mut-2.ensures.value
+
+pub put_place-requires : goal.put_place-requires
+put_place-requires c = record {
+  known = subst (λ ps. IfSome c.put_values-stone.result (λ x. x.0 < length ps)) (c.deref-2.ensures.value ∙ sym c.deref_mut-3.ensures.value)
+      c.put_values-stone.ensures.behind.known;
+}
+
+pub apply-requires-clause-black : goal.apply-requires-clause-black
+apply-requires-clause-black c = let room = subst (λ v. HasRoom v.state) (sym c.self.view_is) c.requires.room in omega (arith, room.black)
+
+pub apply-requires-clause-white : goal.apply-requires-clause-white
+apply-requires-clause-white c = let room = subst (λ v. HasRoom v.state) (sym c.self.view_is) c.requires.room in omega (arith, room.white)
+
+pub returns-clause-applied : goal.returns-clause-applied
+returns-clause-applied c = subst (λ v. Applies v.state c.args.chosen c.apply.new.self c.apply.result) c.self.view_is c.apply.ensures
+
+pub returns-clause-regions : goal.returns-clause-regions
+returns-clause-regions c = ap (λ v. v.regions) c.self.view_is
+
+pub returns-clause-trees : goal.returns-clause-trees
+returns-clause-trees c = ap (λ v. v.trees) c.self.view_is
