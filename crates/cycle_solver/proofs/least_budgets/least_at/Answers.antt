@@ -38,3 +38,36 @@ returns-clause-least c =
           c.requires.summed most c.requires.wins;
       least = λ j lt. c.rising.invariant.2 j (omega (arith, lt, c.rising-test.false));
     }
+
+pub steady_budget-steady-requires : goal.steady_budget-steady-requires
+steady_budget-steady-requires c = omega (arith, c.requires.known, c.requires.seen.solved.many)
+
+pub wins_at-requires-clause-seen : goal.wins_at-requires-clause-seen
+wins_at-requires-clause-seen c = c.requires.seen
+
+pub wins_at-requires-clause-known : goal.wins_at-requires-clause-known
+wins_at-requires-clause-known c = c.requires.known
+
+pub wins_at-requires-clause-many : goal.wins_at-requires-clause-many
+wins_at-requires-clause-many c = c.requires.many
+
+pub returns-then-wins_at-clause-summed : goal.returns-then-wins_at-clause-summed
+returns-then-wins_at-clause-summed c = c.wins_at.ensures.summed
+
+pub returns-then-wins_at-clause-fits : goal.returns-then-wins_at-clause-fits
+returns-then-wins_at-clause-fits c = c.wins_at.ensures.fits
+
+pub put_budget-requires-clause-seen : goal.put_budget-requires-clause-seen
+put_budget-requires-clause-seen c = c.requires.seen
+
+pub put_budget-requires-clause-known : goal.put_budget-requires-clause-known
+put_budget-requires-clause-known c = c.requires.known
+
+pub put_budget-requires-clause-many : goal.put_budget-requires-clause-many
+put_budget-requires-clause-many c = c.requires.many
+
+pub returns-clause-summed : goal.returns-clause-summed
+returns-clause-summed c = c.put_budget.ensures
+
+pub returns-clause-fits : goal.returns-clause-fits
+returns-clause-fits c = c.rising.invariant.1

@@ -18,3 +18,36 @@ returns-in-Err-Form-Bounds-clause-refusal c =
     let (k, le, needed, past) =
     rw (c.in-Err-Form-Bounds.field-0-is, c.in-Err-Form-Bounds.field-0-0-is) at (c.in-Err-Form-Bounds.ensures.valued r held.graph) in
     (c.index-lowest.ensures ∙ get_or_default c.region.inside.points.items 0 c.index-lowest.result.now 0 c.region.invariant.some ∙ ap (λ z. get_or z.points 0 0) c.region.view_is, held.positions, (c.args.colour, (k, le, needed, past_bounds r c.args.graph.now held.graph c.args.colour c.args.limits.now.parts k past)))
+
+pub returns-in-Ok-clause-refusal : goal.returns-in-Ok-clause-refusal
+returns-in-Ok-clause-refusal c = tt
+
+pub returns-in-Ok-clause-kept : goal.returns-in-Ok-clause-kept
+returns-in-Ok-clause-kept c = c.value_steady.ensures.kept
+
+pub returns-in-Err-Captures-clause-refusal : goal.returns-in-Err-Captures-clause-refusal
+returns-in-Err-Captures-clause-refusal c = tt
+
+pub returns-in-Err-Captures-clause-kept : goal.returns-in-Err-Captures-clause-kept
+returns-in-Err-Captures-clause-kept c = c.value_steady.ensures.kept
+
+pub returns-in-Err-Form-Parts-clause-values : goal.returns-in-Err-Form-Parts-clause-values
+returns-in-Err-Form-Parts-clause-values c = tt
+
+pub returns-in-Err-Form-Parts-clause-kept : goal.returns-in-Err-Form-Parts-clause-kept
+returns-in-Err-Form-Parts-clause-kept c = c.value_steady.ensures.kept
+
+pub returns-in-Err-Form-Bounds-clause-values : goal.returns-in-Err-Form-Bounds-clause-values
+returns-in-Err-Form-Bounds-clause-values c = tt
+
+pub returns-in-Err-Form-Bounds-clause-kept : goal.returns-in-Err-Form-Bounds-clause-kept
+returns-in-Err-Form-Bounds-clause-kept c = c.value_steady.ensures.kept
+
+pub returns-in-Err-Form-Memory-clause-values : goal.returns-in-Err-Form-Memory-clause-values
+returns-in-Err-Form-Memory-clause-values c = tt
+
+pub returns-in-Err-Form-Memory-clause-refusal : goal.returns-in-Err-Form-Memory-clause-refusal
+returns-in-Err-Form-Memory-clause-refusal c = tt
+
+pub returns-in-Err-Form-Memory-clause-kept : goal.returns-in-Err-Form-Memory-clause-kept
+returns-in-Err-Form-Memory-clause-kept c = c.value_steady.ensures.kept

@@ -1,3 +1,5 @@
+use Rattle.std.proofs.lemmas.Result.{IfOk-from_err, err_from_is_err_and}
+use Rattle.game_canon.proofs.ChangedIdLaws.{extends-on}
 use Rattle.std.proofs.Common.{◌∙◌, ap, arith, get_or}
 use Rattle.std.proofs.lemmas.List.{get_or_default}
 use Rattle.go_grid.specs.declared.grid.Colour.TheVariants.{Black}
@@ -31,3 +33,49 @@ returns-in-Ok-clause-refusal c =
     (c.index-lowest.ensures ∙ get_or_default c.region.inside.points.items 0 c.index-lowest.result.now 0 c.region.invariant.some
     ∙ ap (λ z. get_or z.points 0 0) c.region.view_is)
     c.together.ensures.refusal
+
+pub returns-in_err-black-clause-kept : goal.returns-in_err-black-clause-kept
+returns-in_err-black-clause-kept c = c.values_of.ensures.kept
+
+pub returns-in_err-black-clause-solved : goal.returns-in_err-black-clause-solved
+returns-in_err-black-clause-solved c =
+    IfOk-from_err c.from_residual.result _ c.from_residual.ensures.0
+
+pub returns-in_err-black-clause-refusal : goal.returns-in_err-black-clause-refusal
+returns-in_err-black-clause-refusal c =
+    let p = err_from_is_err_and c.from_residual.result c.from_residual.ensures.1 in rw (p.1, p.2) c.in_err-black.ensures.refusal
+
+pub returns-then-not-has_cycle-clause-kept : goal.returns-then-not-has_cycle-clause-kept
+returns-then-not-has_cycle-clause-kept c = c.values_of.ensures.kept
+
+pub returns-in-Ok-clause-kept : goal.returns-in-Ok-clause-kept
+returns-in-Ok-clause-kept c =
+    extends-on c.args.store.now c.values_of.new.store c.values_of-2.new.store c.values_of.ensures.kept c.values_of-2.ensures.kept
+
+pub returns-in-Err-clause-kept : goal.returns-in-Err-clause-kept
+returns-in-Err-clause-kept c =
+    extends-on c.args.store.now c.values_of.new.store c.values_of-2.new.store c.values_of.ensures.kept c.values_of-2.ensures.kept
+
+pub returns-in-Err-clause-refusal : goal.returns-in-Err-clause-refusal
+returns-in-Err-clause-refusal c = c.in-Err.ensures.refusal
+
+pub returns-in-Err-clause-solved : goal.returns-in-Err-clause-solved
+returns-in-Err-clause-solved c = tt
+
+pub values_of-requires-clause-points : goal.values_of-requires-clause-points
+values_of-requires-clause-points c = c.requires.points
+
+pub values_of-requires-clause-graph : goal.values_of-requires-clause-graph
+values_of-requires-clause-graph c = c.requires.graph
+
+pub values_of-requires-clause-limit : goal.values_of-requires-clause-limit
+values_of-requires-clause-limit c = c.requires.limit
+
+pub values_of-requires-2-clause-points : goal.values_of-requires-2-clause-points
+values_of-requires-2-clause-points c = c.requires.points
+
+pub values_of-requires-2-clause-graph : goal.values_of-requires-2-clause-graph
+values_of-requires-2-clause-graph c = c.requires.graph
+
+pub values_of-requires-2-clause-limit : goal.values_of-requires-2-clause-limit
+values_of-requires-2-clause-limit c = c.requires.limit
