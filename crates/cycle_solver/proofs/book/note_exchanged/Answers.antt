@@ -1,7 +1,10 @@
 use Rattle.std.proofs.Common.{◌∙◌, [], Contains, refl, subst, sym}
+use Rattle.std.proofs.lemmas.Result.{err_from_is_err_and}
 use Rattle.std.proofs.lemmas.List.{append-nil, get_or_default}
+use Rattle.game_store.proofs.EntryLaws.{extends-same}
 use Rattle.cycle_solver.specs.GameLists.{game_at, layers_for, no_game}
 use Rattle.cycle_solver.specs.inner.Shared.{AreLayersOfIds, AreNoted}
+use Rattle.cycle_solver.proofs.NoteLaws.{keeps-all}
 use Rattle.cycle_solver.proofs.SharedLaws.{notes_later}
 use Rattle.cycle_solver.proofs.book.note_exchanged.Goals as goal
 
@@ -28,3 +31,66 @@ pub returns-clause-right : goal.returns-clause-right
 returns-clause-right c =
     let n = c.in_ok-note_game.ensures in
     notes_later c.args.book.now _ c.args.store.now c.note_game.new.store c.requires.right refl [] (sym (append-nil c.args.book.now.games.items)) n.keeps n.right
+
+pub returns-then-not-colours-clause-keeps : goal.returns-then-not-colours-clause-keeps
+returns-then-not-colours-clause-keeps c = keeps-all c.args.book.now.negatives.items
+
+pub returns-then-not-colours-clause-right : goal.returns-then-not-colours-clause-right
+returns-then-not-colours-clause-right c = c.requires.right
+
+pub returns-then-not-colours-clause-games : goal.returns-then-not-colours-clause-games
+returns-then-not-colours-clause-games c = refl
+
+pub returns-then-not-colours-clause-views : goal.returns-then-not-colours-clause-views
+returns-then-not-colours-clause-views c = refl
+
+pub returns-then-not-colours-clause-kept : goal.returns-then-not-colours-clause-kept
+returns-then-not-colours-clause-kept c = extends-same c.args.store.now c.args.store.now refl
+
+pub returns-then-is_exchanged-clause-keeps : goal.returns-then-is_exchanged-clause-keeps
+returns-then-is_exchanged-clause-keeps c = keeps-all c.args.book.now.negatives.items
+
+pub returns-then-is_exchanged-clause-right : goal.returns-then-is_exchanged-clause-right
+returns-then-is_exchanged-clause-right c = c.requires.right
+
+pub returns-then-is_exchanged-clause-games : goal.returns-then-is_exchanged-clause-games
+returns-then-is_exchanged-clause-games c = refl
+
+pub returns-then-is_exchanged-clause-views : goal.returns-then-is_exchanged-clause-views
+returns-then-is_exchanged-clause-views c = refl
+
+pub returns-then-is_exchanged-clause-kept : goal.returns-then-is_exchanged-clause-kept
+returns-then-is_exchanged-clause-kept c = extends-same c.args.store.now c.args.store.now refl
+
+pub returns-in_err-note_game-clause-noted : goal.returns-in_err-note_game-clause-noted
+returns-in_err-note_game-clause-noted c =
+    let p = err_from_is_err_and c.from_residual.result c.from_residual.ensures.1 in rw (p.1) tt
+
+pub returns-in_err-note_game-clause-keeps : goal.returns-in_err-note_game-clause-keeps
+returns-in_err-note_game-clause-keeps c =
+    let p = err_from_is_err_and c.from_residual.result c.from_residual.ensures.1 in rw (p.1) tt
+
+pub returns-in_err-note_game-clause-right : goal.returns-in_err-note_game-clause-right
+returns-in_err-note_game-clause-right c =
+    let p = err_from_is_err_and c.from_residual.result c.from_residual.ensures.1 in rw (p.1) tt
+
+pub returns-in_err-note_game-clause-games : goal.returns-in_err-note_game-clause-games
+returns-in_err-note_game-clause-games c = refl
+
+pub returns-in_err-note_game-clause-views : goal.returns-in_err-note_game-clause-views
+returns-in_err-note_game-clause-views c = refl
+
+pub returns-in_err-note_game-clause-kept : goal.returns-in_err-note_game-clause-kept
+returns-in_err-note_game-clause-kept c = c.note_game.ensures.kept
+
+pub returns-clause-games : goal.returns-clause-games
+returns-clause-games c = refl
+
+pub returns-clause-views : goal.returns-clause-views
+returns-clause-views c = refl
+
+pub returns-clause-kept : goal.returns-clause-kept
+returns-clause-kept c = c.note_game.ensures.kept
+
+pub returns-clause-keeps : goal.returns-clause-keeps
+returns-clause-keeps c = c.in_ok-note_game.ensures.keeps

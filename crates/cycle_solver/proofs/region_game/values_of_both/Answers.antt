@@ -1,8 +1,8 @@
-use Rattle.std.proofs.lemmas.Result.{IfOk-from_err, err_from_is_err_and}
-use Rattle.game_canon.proofs.ChangedIdLaws.{extends-on}
 use Rattle.std.proofs.Common.{◌∙◌, ap, arith, get_or}
+use Rattle.std.proofs.lemmas.Result.{IfOk-from_err, err_from_is_err_and}
 use Rattle.std.proofs.lemmas.List.{get_or_default}
 use Rattle.go_grid.specs.declared.grid.Colour.TheVariants.{Black}
+use Rattle.game_canon.proofs.ChangedIdLaws.{extends-on}
 use Rattle.cycle_solver.proofs.BothLaws.{alone_refused, alone_solved, together_refused, together_solved}
 use Rattle.cycle_solver.proofs.GameLaws.{maybe_later}
 use Rattle.cycle_solver.proofs.region_game.values_of_both.Goals as goal

@@ -1,9 +1,9 @@
-use Rattle.std.proofs.lemmas.Result.{err_from_is_err_and}
-use Rattle.game_canon.proofs.ChangedIdLaws.{extends-on}
 use Rattle.std.proofs.Common.{◌+◌, ◌^◌, ◌≤◌, arith, length, min, refl, subst, sym}
-use Rattle.game_store.proofs.EntryLaws.{extends-same}
+use Rattle.std.proofs.lemmas.Result.{err_from_is_err_and}
 use Rattle.std.proofs.lemmas.List.{get_or_read}
 use Rattle.go_grid.specs.Region.{Region}
+use Rattle.game_store.proofs.EntryLaws.{extends-same}
+use Rattle.game_canon.proofs.ChangedIdLaws.{extends-on}
 use Rattle.endgame_solver.specs.Regions.{no_region}
 use Rattle.endgame_solver.proofs.SharingLaws.{negatives_later}
 use Rattle.cycle_solver.specs.declared.book.Book.{Book}

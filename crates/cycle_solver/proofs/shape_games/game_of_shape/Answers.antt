@@ -1,7 +1,8 @@
-use Rattle.std.proofs.Common.{◌∷◌, [], refl, subst, sym}
-use Rattle.std.proofs.lemmas.List.{append-nil}
+use Rattle.std.proofs.Common.{◌≡◌, ◌∙◌, ◌∷◌, List, [], ap, arith, get_or, length, refl, subst, sym}
+use Rattle.std.proofs.lemmas.List.{append-nil, get_or_push, length_push}
 use Rattle.std.proofs.lemmas.Result.{IfOk-from_err, err_from_is_err_and}
 use Rattle.game_store.proofs.EntryLaws.{extends-same}
+use Rattle.cycle_solver.specs.declared.shapes.Kind.{Kind}
 use Rattle.cycle_solver.specs.inner.Shared.{HasShapeAt}
 use Rattle.cycle_solver.proofs.SharedLaws.{with_kind}
 use Rattle.cycle_solver.proofs.shape_games.game_of_shape.Goals as goal
@@ -109,3 +110,13 @@ returns-clause-kept g c = c.region_game.ensures.kept
 
 pub returns-clause-steps : goal.returns-clause-steps
 returns-clause-steps g c = c.region_game.ensures.steps
+
+pub returns-clause-place : goal.returns-clause-place
+returns-clause-place g c =
+    let kinds = c.args.kinds.now.items in
+    let place = c.len-place.result in
+    let items = c.in_ok-push-2.ensures.items in
+    let last : length kinds ≡ place = omega (arith, c.len-place.ensures, c.requires.kinds.many, c.args.games.now.ok) in (
+      omega (arith, last, ap (λ (z : List Kind). length z) items, length_push kinds c.args.kind),
+      λ k is. ap (λ z. z.shape.spots.items) (sym is ∙ ap (λ ks. get_or ks place k) items ∙ get_or_push kinds c.args.kind k place last),
+    )
