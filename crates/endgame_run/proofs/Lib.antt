@@ -1,5 +1,6 @@
 -- How the parts of a run answer, then the runs of the commands, then what follows of them.
 mod TopLaws
+mod FileLaws
 mod SizeLaws
 mod RefusalLaws
 mod SolveLaws
