@@ -107,17 +107,6 @@ longer t limit old new how is h = go t (subst (λ l. Loads t limit old new (Ok l
   go absent k = absurd k
   go (holding file) k = k.0
 
--- a load that was refused with `Absent` or `Failed`
-pub refused_cause : (t : Told) (limit : ℕ) (old new : List ℕ) (before now : ℕ) (r : Result Loaded LoadError) (f : LoadError) → r ≡ Err f → ((cause : AllocError) → f ≢ Memory cause)
-    → Loads t limit old new r → FailsByCount before now r → (t ≡ absent) ⊎ Rose before now
-refused_cause t limit old new before now r Failed is other h k = inr (k.failed is)
-refused_cause t limit old new before now r (Memory cause) is other h k = absurd (other cause refl)
-refused_cause t limit old new before now r Absent is other h k = inl (go t (subst (Loads t limit old new) is h)) where
-  go : (u : Told) → Loads u limit old new (Err Absent) → u ≡ absent
-  go untold l = absurd l
-  go absent l = refl
-  go (holding file) l = absurd l
-
 -- a file that is read piece by piece: what was left at first is what was read, and then what is left now
 module _ (before now : Option (List ℕ)) (file : List ℕ) (so_far : before ≡ prepend_known file now) where
   pub file_taken : length file ≤ most_of_file → TakesAtMost most_of_file before now

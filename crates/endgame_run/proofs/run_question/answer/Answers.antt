@@ -15,3 +15,15 @@ report_on_position-requires-clause-taxed g c =
     let i = input_of g.H.Shelf g.S.Source c.args.shelf.now c.args.lines.now in
     let j = input_of g.H.Shelf g.S.Source c.find_position.new.shelf c.find_position.new.lines in
     position_may_tax c.args.settings.now c.args.inquiry.now.word.now i j c.in_ok-setup.field-0 c.in-Position.setup c.args.inquiry.now.limits.tax c.in-Position.is c.in_ok-setup.ensures.found c.requires.untaxed
+
+pub returns-in_err-setup-clause-reads : goal.returns-in_err-setup-clause-reads
+returns-in_err-setup-clause-reads g c = c.find_position.ensures.reads
+
+pub returns-in_err-report-in-Position-clause-reads : goal.returns-in_err-report-in-Position-clause-reads
+returns-in_err-report-in-Position-clause-reads g c = c.find_position.ensures.reads
+
+pub returns-in_ok-report-in-Position-clause-reads : goal.returns-in_ok-report-in-Position-clause-reads
+returns-in_ok-report-in-Position-clause-reads g c = c.find_position.ensures.reads
+
+pub returns-in-Fault-clause-reads : goal.returns-in-Fault-clause-reads
+returns-in-Fault-clause-reads g c = c.find_position.ensures.reads
