@@ -14,3 +14,4 @@ pub mod CycleLawLemmas
 pub mod SettledLemmas
 pub mod AnalysisLemmas
 pub mod CycleAnalysisLemmas
+pub mod ArgumentLemmas

@@ -1,5 +1,5 @@
 -- What single orders leave behind.
-use Rattle.std.proofs.Common.{◌≡◌, ◌⊎◌, ◌≤◌, ◌<◌, ◌+◌, ◌++◌, ◌∷◌, ℕ, List, [], length, arith, inl, inr, refl, sym, ap, ◌∙◌, subst, Option, Some, None, Ok, Err, Result, IfOk}
+use Rattle.std.proofs.Common.{◌≡◌, ◌⊎◌, ◌≤◌, ◌<◌, ◌+◌, ◌++◌, ◌∷◌, ℕ, List, [], length, arith, inl, inr, refl, sym, ap, ◌∙◌, subst, Option, Some, None, Ok, Err, Result, IfOk, OnErr}
 use Rattle.std.proofs.lemmas.List.{length_push}
 use Rattle.go_grid.specs.declared.grid.Colour.{Colour}
 use Rattle.board_session.specs.declared.position.BoardMove.{BoardMove}
@@ -42,6 +42,16 @@ pub done_told : {E : Type 0} (id text : List ℕ) (ordered order : BoardOrder) (
     → IfOk r (λ reply. reply ≡ reply_text id (done text)) → IfOk r (λ reply. IsDone ordered id s reply s)
 done_told id text ordered order s (Ok reply) is does said = subst (λ o. IsDone o id s reply s) (sym is) (done text, does, said)
 done_told id text ordered order s (Err e) is does said = tt
+
+-- an order by its other name
+pub done_as : {E : Type 0} (ordered order : BoardOrder) (id : List ℕ) (s u : BoardState) (r : Result (List ℕ) E) → ordered ≡ order → IfOk r (λ reply. IsDone order id s reply u)
+    → IfOk r (λ reply. IsDone ordered id s reply u)
+done_as ordered order id s u r is h = subst (λ o. IfOk r (λ reply. IsDone o id s reply u)) (sym is) h
+
+-- what changed nothing left the state as it was where it was refused too
+pub same_always : {E : Type 0} (s : BoardState) (r : Result (List ℕ) E) → OnErr r (s ≡ s)
+same_always s (Ok reply) = tt
+same_always s (Err e) = refl
 
 -- an empty board
 pub done_cleared : {E : Type 0} (id : List ℕ) (columns rows : ℕ) (ordered : BoardOrder) (s u : BoardState) (r : Result (List ℕ) E) → ordered ≡ clear_board

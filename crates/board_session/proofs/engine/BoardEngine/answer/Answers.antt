@@ -22,3 +22,15 @@ pub returns-clause-grown : goal.returns-clause-grown
 returns-clause-grown g c =
     grown_if_ok c.meet-answer.result (λ x. x.reply) (λ x. x.quit) (g.H.Shelf.files c.args.shelf.now) (g.H.Shelf.faults c.args.shelf.now) (g.H.Shelf.faults c.meet-answer.new.shelf) c.args.line.now
     c.args.self.now c.meet-answer.new.self (returns-clause-answered g c) c.meet-answer.ensures.same
+
+pub returns-clause-same : goal.returns-clause-same
+returns-clause-same g c = c.meet-answer.ensures.same
+
+pub returns-clause-same_files : goal.returns-clause-same_files
+returns-clause-same_files g c = c.meet-answer.ensures.same_files
+
+pub returns-clause-later_loads : goal.returns-clause-later_loads
+returns-clause-later_loads g c = c.meet-answer.ensures.later
+
+pub returns-clause-steps : goal.returns-clause-steps
+returns-clause-steps g c = c.meet-answer.ensures.steps

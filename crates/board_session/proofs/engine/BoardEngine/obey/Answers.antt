@@ -1,7 +1,8 @@
-use Rattle.std.proofs.Common.{ap, refl, arith, subst, IfOk}
+use Rattle.std.proofs.Common.{ap, refl, arith, subst, sym, IfOk}
 use Rattle.board_session.specs.inner.Viewed.{order_of}
 use Rattle.board_session.specs.inner.Analysing.{IsReported}
 use Rattle.board_session.specs.inner.Doing.{IsGenerated, IsSuggested}
+use Rattle.board_session.specs.inner.Obeying.{IsObeyed}
 use Rattle.board_session.proofs.AnswerLemmas.{generated_obeyed, plain_obeyed, plain_same, reported_obeyed, suggested_obeyed}
 use Rattle.board_session.proofs.engine.BoardEngine.obey.Goals as goal
 
@@ -49,3 +50,8 @@ returns-in-LoadSgf-clause-later g c = c.load_file.ensures.later
 pub returns-in-GenMove-clause-same : goal.returns-in-GenMove-clause-same
 returns-in-GenMove-clause-same g c =
     let inside = c.self.inside in plain_same inside.limits inside.loads inside.session c.generate.new.self c.args.self.now c.self.view_is c.generate.result c.generate.ensures.same
+
+pub returns-in-LoadSgf-clause-obeyed : goal.returns-in-LoadSgf-clause-obeyed
+returns-in-LoadSgf-clause-obeyed g c =
+    let files = g.H.Shelf.files c.args.shelf.now in let before = g.H.Shelf.faults c.args.shelf.now in let now = g.H.Shelf.faults c.load_file.new.shelf in
+    subst (λ o. IfOk c.load_file.result (λ reply. IsObeyed files before now c.args.id.now o c.args.self.now reply c.load_file.new.self)) (sym (ap order_of c.in-LoadSgf.is)) c.load_file.ensures.loaded
