@@ -15,3 +15,8 @@ returns-in-Ok-clause-grows c =
     let same = subst (λ g. PlacesStone g c.args.point c.args.colour c.place.new.board (Ok c.in-Ok.number)) c.in_ok-board.ensures c.in-Ok.ensures in
     stone_grows c.args.self.now (record { board = c.place.new.board; prisoners = c.grow.result; passes = c.args.self.now.passes }) c.args.colour c.in-Ok.number
     same.0.0 small (c.grow.ensures ∙ ap (λ n. grown c.args.colour n c.args.self.now.prisoners) c.from.ensures) refl
+
+pub returns-in-Ok-clause-outcome : goal.returns-in-Ok-clause-outcome
+returns-in-Ok-clause-outcome c =
+    let same = subst (λ g. PlacesStone g c.args.point c.args.colour c.place.new.board (Ok c.in-Ok.number)) c.in_ok-board.ensures c.in-Ok.ensures in
+    (c.in-Ok.number, same, c.grow.ensures ∙ ap (λ n. grown c.args.colour n c.args.self.now.prisoners) c.from.ensures, refl)
