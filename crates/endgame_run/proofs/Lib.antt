@@ -7,6 +7,7 @@ mod SolveLaws
 mod LineLaws
 mod SessionLaws
 mod EngineLaws
+mod CutLemmas
 mod RunLaws
 mod OneStatusLaws
 mod CycleAnswers

@@ -7,6 +7,7 @@ mod ending;
 mod engine;
 mod faults;
 mod file;
+mod file_limit;
 mod finding;
 mod game;
 mod laws;

@@ -4,6 +4,7 @@ ghost use Rattle.std.specs.Prelude.{◌≡◌, ◌<◌, IfOk, OnErr};
 ghost use Rattle.endgame_run.specs.Codes.{code_of};
 ghost use Rattle.endgame_run.specs.declared.status.Status.TheVariants.{Memory};
 
+use crate::file_limit::FileLimited;
 use crate::{Status, run};
 use desk_io::{FileShelf, StdSink, StdSource};
 use local_play::Steps;
@@ -41,7 +42,7 @@ pub fn start<L: Ledger, R: Env + Files + Input + Print + AllocGlobal>(
     }
     let mut shelf = FileShelf::new(rt);
     let mut lines = StdSource::new(rt.reader());
-    let mut out = StdSink::new(io::writer(rt));
+    let mut out = StdSink::new(FileLimited::new(rt, io::writer(rt)));
     let mut steps = Steps::<L>::new(blank);
     Ok(run(alloc, &texts, &mut shelf, &mut lines, &mut out, &mut steps))
 }
