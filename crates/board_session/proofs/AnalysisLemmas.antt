@@ -1,7 +1,6 @@
 -- What the replies to analyses tell.
 use Rattle.std.proofs.Common.{◌≡◌, ◌⊎◌, ◌<◌, ℕ, ℤ, Bool, List, All, length, get_or, Ok, Err, Result, IfOk, inl, inr, refl, sym, ap, ◌∙◌, subst}
 use Rattle.std.proofs.lemmas.List.Elements.{Contains-get_or}
-use Rattle.benson_life.specs.Life.{IsAlive, IsCounted}
 use Rattle.go_grid.specs.Board.{Board}
 use Rattle.go_grid.specs.Chain.{IsFirstUnsettled, IsSettled}
 use Rattle.go_grid.specs.Marks.{IsMarked, Lists, Marks}

@@ -1,5 +1,5 @@
 -- What holds of moves that a session generates.
-use Rattle.std.proofs.Common.{◌≡◌, ◌-◌, ℕ, ℤ, zero, suc, List, arith, inl, inr, refl, sym, ap, ◌∙◌, subst, Err}
+use Rattle.std.proofs.Common.{◌≡◌, ℕ, ℤ, zero, suc, List, arith, inl, inr, refl, sym, ap, ◌∙◌, subst, Err}
 use Rattle.std.proofs.lemmas.List.Elements.{Contains-get_or}
 use Rattle.go_grid.specs.Board.{DeclaresNothing, other}
 use Rattle.go_grid.specs.Chain.{IsSettled}
@@ -8,7 +8,6 @@ use Rattle.go_grid.specs.Region.{Region}
 use Rattle.region_cut.specs.Cut.{AreRegionsOfPlay}
 use Rattle.gtp_words.specs.Vertices.{vertex_text}
 use Rattle.sgf_go.specs.declared.settings.Setup.{Setup}
-use Rattle.whole_rules.specs.declared.money.Token.TheVariants as token
 use Rattle.whole_rules.specs.declared.states.Move.{Move}
 use Rattle.whole_rules.specs.declared.states.Move.TheVariants.{Stone, Spend, Half}
 use Rattle.whole_rules.specs.FirstWinningMove.{IsWinning}

@@ -4,6 +4,7 @@ pub mod KeptLemmas
 pub mod OrderLemmas
 pub mod RangeLemmas
 pub mod AnswerLemmas
+pub mod AskingLemmas
 pub mod StandingLemmas
 pub mod HandicapLemmas
 pub mod GeneratingLemmas

@@ -1,5 +1,5 @@
 -- What analyses of a position tell: texts on the game that it opens, its score, and the stones of a status.
-use Rattle.std.specs.Prelude.{◌≡◌, ◌≢◌, ◌⊎◌, ◌+◌, ◌++◌, ◌∷◌, ℕ, zero, suc, ℤ, pos, negsuc, Bool, true, false, List, [], codes, Option, Some, None}
+use Rattle.std.specs.Prelude.{◌≡◌, ◌⊎◌, ◌+◌, ◌++◌, ◌∷◌, ℕ, zero, suc, ℤ, pos, negsuc, Bool, true, false, List, [], codes, Option, Some, None}
 use Rattle.board_words.specs.Komi.{komi_word}
 use Rattle.fault_words.specs.declared.naming.Naming.TheVariants.{Gtp}
 use Rattle.go_grid.specs.Board.{Board, IsEmpty}

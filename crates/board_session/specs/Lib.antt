@@ -10,6 +10,7 @@ pub mod Analysing
 pub mod Handicaps
 pub mod Orders
 pub mod Session
+pub mod Asking
 pub mod Written
 pub mod Kept
 pub mod Laws

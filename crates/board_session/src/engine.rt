@@ -3,9 +3,11 @@
 ghost use Rattle.std.specs.Prelude.{◌≡◌, ◌≤◌, ◌<◌, ◌+◌, List, length, IfOk, OnErr};
 ghost use Rattle.desk_io.specs.declared.lines.TheConstants.{MOST_LINES};
 ghost use Rattle.go_grid.specs.Region.{Region};
+ghost use Rattle.gtp_words.specs.Asking.{AsksBy};
 ghost use Rattle.gtp_words.specs.declared.loading.Loading.TheVariants.{Position};
 ghost use Rattle.region_cut.specs.Cut.{AreRegionsOfPlay};
 ghost use Rattle.endgame_solver.specs.Faults.{most_steps};
+ghost use Rattle.board_session.specs.Asking.{AskedNames, LineNames, OrderNames};
 ghost use Rattle.board_session.specs.Orders.Asked.{something};
 ghost use Rattle.board_session.specs.Orders.BoardOrder.{loadsgf};
 ghost use Rattle.board_session.specs.Session.{game_limits, is_last};
@@ -137,6 +139,8 @@ impl BoardEngine {
         requires few { self.old.loads.count < MOST_LOADS }
         ensures loaded { IfOk result (λ reply. IsObeyed (H.files shelf.old) (H.faults shelf.old)
             (H.faults shelf.new) id.now (loadsgf file.now after) self.old reply self.new) }
+        ensures asked { AsksBy H.asks (OrderNames (loadsgf file.now after))
+            shelf.old shelf.new result }
         ensures same { OnErr result (self.new ≡ self.old) }
         ensures same_files { H.files shelf.new ≡ H.files shelf.old }
         ensures later { H.faults shelf.old ≤ H.faults shelf.new }
@@ -163,6 +167,8 @@ impl BoardEngine {
         requires komi { HasKomiInRange (order_of request) }
         ensures obeyed { IfOk result (λ reply. IsObeyed (H.files shelf.old) (H.faults shelf.old)
             (H.faults shelf.new) id.now (order_of request.entry) self.old reply self.new) }
+        ensures asked { AsksBy H.asks (OrderNames (order_of request.entry))
+            shelf.old shelf.new result }
         ensures same { OnErr result (self.new ≡ self.old) }
         ensures same_files { H.files shelf.new ≡ H.files shelf.old }
         ensures later { H.faults shelf.old ≤ H.faults shelf.new }
@@ -204,6 +210,8 @@ impl BoardEngine {
         requires komi { AsksInRange (asked_of asked) }
         ensures met { IfOk result (λ answer. IsMet (H.files shelf.old) (H.faults shelf.old)
             (H.faults shelf.new) id.now (asked_of asked.entry) self.old answer.reply self.new) }
+        ensures asked { AsksBy H.asks (AskedNames (asked_of asked.entry))
+            shelf.old shelf.new result }
         ensures quit { IfOk result (λ answer. answer.quit ≡ is_last (asked_of asked.entry)) }
         ensures same { OnErr result (self.new ≡ self.old) }
         ensures same_files { H.files shelf.new ≡ H.files shelf.old }
@@ -242,6 +250,7 @@ impl BoardEngine {
         ensures answered { IfOk result (λ answer. IsBoardReply (H.files shelf.old)
             (H.faults shelf.old)
             (H.faults shelf.new) line.now self.old answer.reply self.new answer.quit) }
+        ensures asked { AsksBy H.asks (LineNames line.now) shelf.old shelf.new result }
         ensures grown { length self.new.state.moves ≤ length self.old.state.moves + 1 }
         ensures same { OnErr result (self.new ≡ self.old) }
         ensures same_files { H.files shelf.new ≡ H.files shelf.old }

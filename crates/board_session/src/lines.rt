@@ -4,8 +4,10 @@ ghost use Rattle.std.specs.Prelude.{◌≡◌, ◌≤◌, List, ℕ, [], Some, l
 ghost use Rattle.desk_io.specs.Lines.{UsesLines};
 ghost use Rattle.desk_io.specs.Outside.{Rose};
 ghost use Rattle.gtp_words.specs.declared.end.GtpEnd.TheVariants.{ReadFault, WriteFault};
+ghost use Rattle.gtp_words.specs.Asking.{AsksInSession};
 ghost use Rattle.gtp_words.specs.Loads.{RoseBy};
 ghost use Rattle.gtp_words.specs.Sessions.{WritesByEnd};
+ghost use Rattle.board_session.specs.Asking.{LineNames};
 ghost use Rattle.board_session.specs.Session.{AnswersLine, first_state};
 ghost use Rattle.board_session.specs.States.{BoardState};
 ghost use Rattle.board_session.specs.Written.{unused};
@@ -19,6 +21,7 @@ use std::sync::ledger::Ledger;
 
 impl AnswersLines for BoardEngine {
     ghost use Rattle.board_session.specs.declared.limits.BoardLimits.{BoardLimits};
+    ghost use Rattle.board_session.specs.Asking.{LineNames};
     ghost use Rattle.board_session.specs.Session.{AnswersLine};
     ghost use Rattle.board_session.specs.States.{BoardState};
     ghost use Rattle.board_session.specs.Written.{CanAnswer, loaded};
@@ -32,6 +35,8 @@ impl AnswersLines for BoardEngine {
     ghost loaded = { loaded };
 
     ghost replies = { AnswersLine };
+
+    ghost names = { LineNames };
 
     ghost has_room = { CanAnswer };
 
@@ -59,6 +64,8 @@ impl BoardEngine {
             → WritesByEnd BoardState (AnswersLine self.old.limits (H.files shelf.old))
             self.new.loads.failures first_state bytes (K.holds out.old) (K.holds out.new)
             self.new.state (S.left lines.new) result }
+        ensures asked { (bytes : List ℕ) → S.left lines.old ≡ Some bytes → AsksInSession H.asks
+            LineNames bytes shelf.old (S.left lines.new) shelf.new result }
         ensures counted { RoseBy (length self.new.loads.failures) (H.faults shelf.old)
             (H.faults shelf.new) }
         ensures read_fault { result ≡ ReadFault → Rose (S.faults lines.old) (S.faults lines.new) }

@@ -1,5 +1,5 @@
 -- Questions about a position whose regions may have cycles: what they come to, and that they have one status.
-use Rattle.std.proofs.Common.{◌≡◌, ℕ, ◌+◌, ◌<◌, ◌⊎◌, inl, inr, refl, sym, ap, ◌∙◌, subst, arith, List, length, Ok, Err}
+use Rattle.std.proofs.Common.{◌≡◌, ℕ, ◌<◌, ◌⊎◌, inl, inr, refl, sym, ap, ◌∙◌, subst, arith, List, length, Ok, Err}
 use Rattle.std.proofs.lemmas.Bool.{cases_order}
 use Rattle.std.proofs.lemmas.List.Elements.{Contains-get_or}
 use Rattle.go_grid.specs.Region.{Region}
@@ -8,32 +8,25 @@ use Rattle.sgf_go.specs.File.{Reads}
 use Rattle.sgf_go.specs.declared.fault.FileFault.{FileFault}
 use Rattle.sgf_go.specs.declared.settings.Setup.{Setup}
 use Rattle.sgf_go.proofs.OneReadingLemmas.{not_both, one_fault, one_setup}
-use Rattle.gd_words.specs.Task.{TakesNoCycles}
 use Rattle.gd_words.specs.declared.job.CycleQuestion.{CycleQuestion}
 use Rattle.gd_words.specs.declared.job.CycleQuestion.TheVariants as cycle
 use Rattle.gd_words.specs.declared.job.Question.{Question}
 use Rattle.gd_words.specs.declared.job.Question.TheVariants as question
 use Rattle.endgame_solver.specs.Faults.{AreSmallRegions}
 use Rattle.endgame_solver.specs.Regions.{no_region, region_at}
-use Rattle.endgame_solver.specs.Solved.{Solved}
 use Rattle.endgame_solver.specs.declared.limits.Limits.{Limits}
 use Rattle.endgame_solver.proofs.BeginLaws.{one_regions}
-use Rattle.cycle_solver.specs.Begun.{Begun}
 use Rattle.cycle_solver.specs.CycleFaults.{AreRefused, AreSteadyWithin, IsFaultOf, IsFirstFault, IsSteadyWithin}
 use Rattle.cycle_solver.specs.declared.faults.CycleError.{CycleError}
 use Rattle.cycle_solver.specs.declared.faults.CycleError.TheVariants.{Points, Positions, Form, Captures, Memory}
-use Rattle.report.specs.CycleValues.{HasShownValues, IsCycleValuesText, IsFirstCycleUnshown}
+use Rattle.report.specs.CycleValues.{HasShownValues, IsFirstCycleUnshown}
 use Rattle.report.proofs.CycleValuesLaws.{both_shown, shown_at}
-use Rattle.endgame_run.specs.Cycles.{AreCycleUnshown, HasCycleStatus, IsCycleQuestionRefused, IsCycleRefused, IsCycleText, IsSteadyFor, cycle_refusal_line, most_captures}
+use Rattle.endgame_run.specs.Cycles.{AreCycleUnshown, HasCycleStatus, IsCycleQuestionRefused, IsCycleRefused, IsCycleText, IsSteadyFor, most_captures}
 use Rattle.endgame_run.specs.Laws.{HasOneStatus, RefusesUnsteady, ShowsSteady, SolvesSteady}
 use Rattle.endgame_run.specs.Question.{IsPositionAnswer}
-use Rattle.endgame_run.specs.Refusal.{form_line}
 use Rattle.endgame_run.specs.declared.status.Status.{Status}
 use Rattle.endgame_run.specs.declared.status.Status.TheVariants as status
-use Rattle.endgame_run.specs.inner.Refusal.{NamesCyclePoints}
-use Rattle.endgame_run.specs.inner.Top.{IsCycleReport, IsCycleValuesReport}
 use Rattle.endgame_run.proofs.OneStatusLaws.{HasLarge, by_status, file_or_position, large_or_small, plain_status}
-use Rattle.fault_words.proofs.NamedPointLemmas.{lowest_on_board}
 
 -- a steady region has no fault
 steady_has_none : (limits : Limits) (r : Region) (f : CycleError) → IsSteadyWithin limits most_captures r → IsFaultOf limits most_captures r f → ⊥

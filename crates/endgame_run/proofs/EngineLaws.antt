@@ -9,12 +9,13 @@ use Rattle.desk_io.specs.Lines.{UsesLines}
 use Rattle.desk_io.specs.Outside.{Rose}
 use Rattle.gtp_words.specs.declared.end.GtpEnd.{GtpEnd}
 use Rattle.gtp_words.specs.declared.end.GtpEnd.TheVariants as end
+use Rattle.gtp_words.specs.Asking.{Asking, AsksInSession}
 use Rattle.gtp_words.specs.Loads.{AreLoads, Loads, RoseBy}
 use Rattle.gtp_words.specs.Sessions.{WritesByEnd, beginning}
 use Rattle.endgame_run.specs.declared.status.Status.{Status}
 use Rattle.endgame_run.specs.declared.status.Status.TheVariants.{CannotRead, CannotWrite, Done, Memory, TooManyLines}
 use Rattle.endgame_run.specs.declared.status.Status.TheVariants as status
-use Rattle.endgame_run.specs.Engine.{AreFailedLoads, IsEnginePlay, IsEngineStatus, IsEngineStopped, IsEngineWritten, SessionRules}
+use Rattle.endgame_run.specs.Engine.{AreFailedLoads, AsksForLines, IsEnginePlay, IsEngineStatus, IsEngineStopped, IsEngineWritten, SessionRules}
 use Rattle.endgame_run.specs.File.{TakesAtMost, most_of_engine}
 use Rattle.endgame_run.specs.Written.{Finishes}
 use Rattle.endgame_run.specs.inner.Top.{IsClosed}
@@ -130,3 +131,13 @@ pub session_taken : (before now : Option (List ℕ)) → (held : List ℕ) × (l
 session_taken before now (held, few, used) = λ bytes e.
     let u = used bytes e in
     (u.0 ++ held, u.1, u.2, u.3 ∙ sym (append_assoc u.0 held u.1), omega (arith, u.4, few, length-append u.0 held))
+
+-- what a session asked for, and the line of a fault behind it
+module _ {H : Type 0} (asks : Asking H) (r : SessionRules) (s : H) (before : Option (List ℕ)) where
+  pub asked_nothing : AsksForLines asks r s before Memory s before
+  asked_nothing = λ bytes told. (end.Memory, (bytes, ([], bytes, omega arith, told, refl), (0, s, (refl, refl), inl refl)), λ is. refl)
+
+  pub asked_behind : (t : H) (left : Option (List ℕ)) (final : GtpEnd) (counted count : ℕ) (held holds : Option (List ℕ)) (status : Status)
+      → ((bytes : List ℕ) → before ≡ Some bytes → AsksInSession asks r.Names bytes s left t final) → IsClosed final counted count held holds status → AsksForLines asks r s before status t left
+  asked_behind t left final counted count held holds status asked closed = λ bytes told.
+      (final, asked bytes told, λ is. (subst (λ f. IsClosed f counted count held holds status) is closed).0)

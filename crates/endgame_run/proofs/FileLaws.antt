@@ -1,20 +1,17 @@
 -- What is read of a file: from the source where its word is `-`, and else by a load.
 use Rattle.std.proofs.Common.{tests, rules, ◌≡◌, ◌≤◌, ◌<◌, ℕ, ◌⊎◌, inl, inr, arith, length, take, refl, sym, ap, subst, ◌∙◌, List, [], ◌++◌, append_assoc, length-append, Some, None, true, false, ◌≢◌}
-use Rattle.std.specs.Prelude.{Option, Result, Ok, Err, if◌then◌else◌}
+use Rattle.std.specs.Prelude.{Option, Ok, if◌then◌else◌}
 use Rattle.std.specs.Io.KnownBytes.{prepend_known}
 use Rattle.std.specs.Str.{bytes_eq}
-use Rattle.std.specs.declared.alloc.AllocError.{AllocError}
 use Rattle.std.proofs.KnownBytes.{prepend_known-nil}
 use Rattle.std.proofs.lemmas.Slice.Eq.{bytes_eq-Decides}
 use Rattle.std.proofs.lemmas.List.{take-append-le}
 use Rattle.desk_io.specs.Desk.{Input}
-use Rattle.desk_io.specs.Files.{FailsByCount, IsLonger, IsTold, Loads, Told, told_file, told_source}
+use Rattle.desk_io.specs.Files.{IsLonger, IsTold, Loads, Told, told_file, told_source}
 use Rattle.desk_io.specs.Files.Told.{absent, holding, untold}
 use Rattle.desk_io.specs.Outside.{Rose, ended}
 use Rattle.desk_io.specs.declared.outside.Source as Source
 use Rattle.desk_io.specs.declared.shelf.Shelf as Shelf
-use Rattle.desk_io.specs.declared.shelf.LoadError.{LoadError}
-use Rattle.desk_io.specs.declared.shelf.LoadError.TheVariants.{Absent, Failed, Memory}
 use Rattle.desk_io.specs.declared.shelf.Loaded.{Loaded}
 use Rattle.desk_io.specs.declared.shelf.Loaded.TheVariants.{Longer, Whole}
 use Rattle.sgf_go.specs.File.{HasFewBytes}

@@ -1,24 +1,9 @@
 -- What a position that isn't solved comes to.
-use Rattle.std.proofs.Common.{◌≡◌, ℤ, ℕ, zero, suc, ◌<◌, ◌++◌, inr, refl, List, [], length, map, take, drop, get_or, sym, subst, ap, ◌∙◌, arith, append_assoc, Ok, Err, ◌∷◌}
-use Rattle.std.specs.List.{All, Contains}
-use Rattle.std.proofs.lemmas.List.{take-append-drop}
-use Rattle.std.proofs.lemmas.List.Elements.{All-map, Contains-get_or}
-use Rattle.go_grid.proofs.PlayLemmas.{long_after}
-use Rattle.go_grid.specs.declared.grid.Cell.{Cell}
-use Rattle.go_grid.specs.declared.region.Touch.{Touch}
-use Rattle.go_grid.specs.Board.{Board}
-use Rattle.go_grid.specs.Region.{Region}
-use Rattle.go_grid.proofs.WalkLemmas.{joined_end}
-use Rattle.benson_life.specs.Region.{IsContested}
-use Rattle.region_cut.specs.Cut.{lowest, AreRegionsOfPlay}
+use Rattle.std.proofs.Common.{◌≡◌, ℤ, ℕ, inr, refl, List, sym, subst, ap, ◌∙◌, Ok, Err}
 use Rattle.sgf_go.specs.declared.settings.Setup.{Setup}
-use Rattle.local_graph.specs.declared.cycle.CycleMove.{CycleMove}
-use Rattle.local_graph.specs.LocalGraph.{IsCycle, Plays}
 use Rattle.endgame_solver.specs.declared.limits.Limits.{Limits}
 use Rattle.endgame_solver.specs.declared.faults.SolveError.{SolveError}
 use Rattle.endgame_solver.specs.declared.faults.SolveError.TheVariants.{Points, Positions, Cycle, Form, Memory}
-use Rattle.endgame_solver.specs.Faults.{named}
-use Rattle.endgame_solver.specs.Regions.{region_at, no_region}
 use Rattle.endgame_solver.specs.Solved.{Begun, Solved}
 use Rattle.report.specs.Values.{IsValuesText}
 use Rattle.endgame_run.specs.declared.status.Status.{Status}

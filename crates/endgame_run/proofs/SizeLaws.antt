@@ -1,5 +1,5 @@
 -- The board of a main line has one size throughout, so a fault's point lies on the file's board.
-use Rattle.std.proofs.Common.{◌≡◌, ℕ, ◌+◌, ◌*◌, ◌<◌, refl, sym, ap, subst, ◌∙◌, ◌⊎◌, inl, inr, arith, List, [], ◌∷◌, Bool, true, false, length, Some, None, Ok, Err}
+use Rattle.std.proofs.Common.{◌≡◌, ℕ, ◌+◌, ◌*◌, ◌<◌, refl, sym, ap, subst, ◌∙◌, ◌⊎◌, inl, inr, List, [], ◌∷◌, Bool, true, false, length, Some, None, Ok, Err}
 use Rattle.std.specs.Prelude.{Option, Result, codes, ℤ}
 use Rattle.std.proofs.lemmas.List.{length-set, length-replicate}
 use Rattle.go_grid.specs.declared.grid.Cell.{Cell}

@@ -13,7 +13,7 @@ use Rattle.whole_rules.specs.declared.money.Token.{Token}
 use Rattle.whole_rules.specs.declared.money.Token.TheVariants as token
 use Rattle.whole_rules.specs.declared.states.Move.{Move}
 use Rattle.whole_rules.specs.declared.states.Move.TheVariants.{Half, Spend, Stone}
-use Rattle.gd_words.specs.Job.{IsOnlyJob, Job}
+use Rattle.gd_words.specs.Job.{Job}
 use Rattle.gd_words.specs.Task.Task.{ask}
 use Rattle.report.specs.CycleSolution.{captures_line, winner_or_none}
 use Rattle.report.specs.Solution.{count_line, move_line, purse_line, regions_text, solved_line, solved_lines, state_lines, token_word}

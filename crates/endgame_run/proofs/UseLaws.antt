@@ -27,12 +27,12 @@ module _ {H S K : Type 0} (o : Outside H S K) (job : Job) (a b : Desk H S K) (s 
   lines (calc expression) r = r.lines_unread
   lines gtp r = tt
 
-  shelf : (task : Task) → RunsTask o task job a s b → TouchesShelf o task a b
+  shelf : (task : Task) → RunsTask o task job a s b → TouchesShelf o task job a s b
   shelf (ask question word) r = (r.reads.shelf_unread, r.reads.asked)
   shelf (play word) r = r.asked
   shelf (trial number) r = r.shelf_unread
   shelf (calc expression) r = r.shelf_unread
-  shelf gtp r = tt
+  shelf gtp r = r.asked
 
   untaken : b.lines ≡ a.lines → TakesAtMost 0 (o.sources.left a.lines) (o.sources.left b.lines)
   untaken same = subst (λ l. TakesAtMost 0 (o.sources.left a.lines) (o.sources.left l)) (sym same) (nothing_taken 0 (o.sources.left a.lines))

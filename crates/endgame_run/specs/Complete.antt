@@ -12,7 +12,7 @@ use Rattle.game_calc.specs.declared.errors.CalcError.TheVariants as calc_error
 use Rattle.game_calc.specs.declared.errors.CalcFault.{CalcFault}
 use Rattle.gd_words.specs.Job.{Job}
 use Rattle.gd_words.specs.declared.job.Question.{Question}
-use Rattle.gd_words.specs.declared.job.Question.TheVariants.{Board, Safe, Solve, Values, WithCycles}
+use Rattle.gd_words.specs.declared.job.Question.TheVariants.{Board, Safe, Values, WithCycles}
 use Rattle.endgame_solver.specs.declared.limits.Limits.{Limits}
 use Rattle.gd_words.specs.Task.{Task}
 use Rattle.gd_words.specs.Task.Task.{ask, calc, gtp, play, trial}

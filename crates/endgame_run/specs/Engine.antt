@@ -1,5 +1,5 @@
 -- `gtp`: a session over the lines of the source: which loads may fail, how it ends, and what it writes.
-use Rattle.std.specs.Prelude.{◌≡◌, ◌⊎◌, ◌++◌, ℕ, List, length, codes, take, Option, IfSome, cond}
+use Rattle.std.specs.Prelude.{◌≡◌, ◌⊎◌, ◌++◌, ℕ, List, length, codes, take, Option, Some, IfSome, cond}
 use Rattle.std.specs.List.Sorted.{IsStrictlyIncreasing}
 use Rattle.std.specs.Io.KnownBytes.{append_known}
 use Rattle.desk_io.specs.Desk.{Desk, Known, Outside, known}
@@ -10,9 +10,12 @@ use Rattle.gtp_engine.specs.declared.limits.EngineLimits.{EngineLimits}
 use Rattle.board_session.specs.declared.limits.BoardLimits.{BoardLimits}
 use Rattle.gtp_words.specs.declared.end.GtpEnd.{GtpEnd}
 use Rattle.gtp_words.specs.declared.end.GtpEnd.TheVariants as end
+use Rattle.gtp_words.specs.Asking.{Asking, AsksInSession, Naming}
 use Rattle.gtp_words.specs.Loads.{RoseBy}
 use Rattle.gtp_words.specs.Sessions.{Answers, BreaksOff, IsSession, Standing, StandsAt, Waits, beginning}
+use Rattle.gtp_engine.specs.Asking as engine_file
 use Rattle.gtp_engine.specs.Session as engine
+use Rattle.board_session.specs.Asking as board_file
 use Rattle.board_session.specs.Session as board
 use Rattle.board_session.specs.States.{BoardState}
 use Rattle.endgame_run.specs.File.{TakesAtMost, most_of_engine}
@@ -20,19 +23,20 @@ use Rattle.endgame_run.specs.Limits.{board_limits, engine_limits}
 use Rattle.endgame_run.specs.declared.status.Status.{Status}
 use Rattle.endgame_run.specs.declared.status.Status.TheVariants.{Done, CannotRead, CannotWrite, Memory, TooManyLines}
 
--- a kind of session: its states, what is replied to a line where the shelf holds these files, and where it begins
+-- a kind of session: its states, what is replied to a line where the shelf holds these files, for which file a line asks, and where it begins
 pub record SessionRules : Type 1 where
   pub State : Type 0
   pub Reply : Option Files → Answers State
+  pub Names : Naming
   pub start : State
 
 -- the session of the engine within limits
 abbrev pub engine_rules : EngineLimits → SessionRules
-engine_rules limits = record { State = engine.Table; Reply = engine.AnswersLine limits; start = engine.first_table }
+engine_rules limits = record { State = engine.Table; Reply = engine.AnswersLine limits; Names = engine_file.LineNames; start = engine.first_table }
 
 -- the session of an engine that keeps a board, within limits
 abbrev pub board_rules : BoardLimits → SessionRules
-board_rules limits = record { State = BoardState; Reply = board.AnswersLine limits; start = board.first_state }
+board_rules limits = record { State = BoardState; Reply = board.AnswersLine limits; Names = board_file.LineNames; start = board.first_state }
 
 -- the session of a job
 abbrev pub session_rules : Job → SessionRules
@@ -106,7 +110,14 @@ pub record IsEnginePlay (r : SessionRules) (a : Known) (status : Status) (b : Kn
   pub write : status ≡ CannotWrite → Rose a.writes b.writes
   pub written : IfSome a.input.left (λ bytes. IsEngineWritten r a.input.files failing bytes b.input.left a.holds b.holds status)
 
+-- What a session of the kind asks a shelf for, where the source tells its bytes: the files of the lines that it takes, in their order, each
+-- once, and no other. Where memory is refused that of the next line may have been asked for too.
+abbrev pub AsksForLines : {H : Type 0} → Asking H → SessionRules → H → Option (List ℕ) → Status → H → Option (List ℕ) → Type 0
+AsksForLines asks r s before status t left = (bytes : List ℕ) → before ≡ Some bytes
+    → (final : GtpEnd) × AsksInSession asks r.Names bytes s left t final × (final ≡ end.Memory → status ≡ Memory)
+
 -- what a session of the kind comes to
 pub record RunsEngine {H S K : Type 0} (o : Outside H S K) (r : SessionRules) (a : Desk H S K) (status : Status) (b : Desk H S K) : Type 0 where
   pub played : IsEnginePlay r (known o a) status (known o b)
   pub taken : TakesAtMost most_of_engine (o.sources.left a.lines) (o.sources.left b.lines)
+  pub asked : AsksForLines o.shelves.asks r a.shelf (o.sources.left a.lines) status b.shelf (o.sources.left b.lines)

@@ -5,6 +5,7 @@ use Rattle.desk_io.specs.Outside.{ended}
 use Rattle.gd_words.specs.Job.{Job}
 use Rattle.gd_words.specs.Task.{Task}
 use Rattle.gd_words.specs.Task.Task.{ask, gtp, play}
+use Rattle.endgame_run.specs.Engine.{AsksForLines, session_rules}
 use Rattle.endgame_run.specs.File.{TakesAtMost, dash, most_of_engine, most_of_file, most_of_game}
 use Rattle.endgame_run.specs.Game.{IsPlayedGame}
 use Rattle.endgame_run.specs.Limits.{limits_of}
@@ -32,12 +33,13 @@ module _ {H S K : Type 0} (o : Outside H S K) where
   TouchesLines (ask question word) job a status b = word ≢ dash → b.lines ≡ a.lines
   TouchesLines task job a status b = b.lines ≡ a.lines
 
-  -- what a task does to the shelf: it is asked for the file of the task's word, once, where that isn't the source's, and else it is as before
-  abbrev pub TouchesShelf : Task → Desk H S K → Desk H S K → Type 0
-  TouchesShelf (play word) a b = o.shelves.asks a.shelf word b.shelf
-  TouchesShelf gtp a b = ⊤
-  TouchesShelf (ask question word) a b = (word ≡ dash → b.shelf ≡ a.shelf) × (word ≢ dash → o.shelves.asks a.shelf word b.shelf)
-  TouchesShelf task a b = b.shelf ≡ a.shelf
+  -- what a task does to the shelf: it is asked for the file of the task's word, once, where that isn't the source's, by a session for the
+  -- files of its lines, and else it is as before
+  abbrev pub TouchesShelf : Task → Job → Desk H S K → Status → Desk H S K → Type 0
+  TouchesShelf (play word) job a status b = o.shelves.asks a.shelf word b.shelf
+  TouchesShelf gtp job a status b = AsksForLines o.shelves.asks (session_rules job) a.shelf (o.sources.left a.lines) status b.shelf (o.sources.left b.lines)
+  TouchesShelf (ask question word) job a status b = (word ≡ dash → b.shelf ≡ a.shelf) × (word ≢ dash → o.shelves.asks a.shelf word b.shelf)
+  TouchesShelf task job a status b = b.shelf ≡ a.shelf
 
   -- a file of the source is read to its end where the run is done
   abbrev pub ReadsToEnd : Type 0
@@ -51,6 +53,6 @@ module _ {H S K : Type 0} (o : Outside H S K) where
   abbrev pub TakesFew : Type 0
   TakesFew = (job : Job) (a b : Desk H S K) (status : Status) → Runs o job a status b → TakesAtMost (most_of job.task) (o.sources.left a.lines) (o.sources.left b.lines)
 
-  -- the shelf is asked for the file of the task alone
+  -- the shelf is asked for the files of the task alone
   abbrev pub AsksShelf : Type 0
-  AsksShelf = (job : Job) (a b : Desk H S K) (status : Status) → Runs o job a status b → TouchesShelf job.task a b
+  AsksShelf = (job : Job) (a b : Desk H S K) (status : Status) → Runs o job a status b → TouchesShelf job.task job a status b

@@ -29,8 +29,8 @@ pub fn verdict_laws()
 /// What follows of a run from its relation, for every shelf, source and sink: each status has its cause, and a failed write was
 /// counted; words outside the grammar are refused; a run that isn't done has written a front part of its text, or a session with its
 /// fault; where nothing keeps a run from its text it is done, but for want of memory; an engine keeps what it has won; a file of the
-/// source is read to its end, and else the source is unread but by a session; the shelf is asked for the file of the words alone. It
-/// has no code.
+/// source is read to its end, and else the source is unread but by a session; the shelf is asked for the file of the words, or for
+/// those of a session's lines, and no other. It has no code.
 pub fn run_laws<H: Shelf, S: Source, K: Sink>()
     ensures cause { HasCauses (outside H.Shelf S.Source K.Sink) }
     ensures cannot_write { CountsWrites (outside H.Shelf S.Source K.Sink) }

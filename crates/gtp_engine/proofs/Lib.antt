@@ -3,6 +3,7 @@ pub mod MoveLemmas
 pub mod KeptLemmas
 pub mod OrderLemmas
 pub mod AnswerLemmas
+pub mod AskingLemmas
 pub mod WinLemmas
 pub mod KomiLemmas
 pub mod RoomLemmas

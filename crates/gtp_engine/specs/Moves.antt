@@ -2,7 +2,6 @@
 use Rattle.std.specs.Prelude.{◌≡◌, ◌+◌, ◌*◌, ◌-◌, ℕ, List, codes, Option, Some, None, nat_lt, nat_le, ◌&&◌, if◌then◌else◌}
 use Rattle.whole_rules.specs.declared.states.Move.{Move}
 use Rattle.whole_rules.specs.declared.states.Move.TheVariants as move
-use Rattle.gtp_words.specs.declared.vertices.Vertex.{Vertex}
 use Rattle.gtp_words.specs.Vertices.{IsVertex, vertex_text}
 use Rattle.gtp_words.specs.Words.{lowered}
 use Rattle.gtp_engine.specs.declared.moves.Wanted.{Wanted}

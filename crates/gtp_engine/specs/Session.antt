@@ -1,19 +1,12 @@
 -- A session: what each line is answered, and where the session stands after it.
-use Rattle.std.specs.Prelude.{Bool, true, false, ◌≡◌, ◌≢◌, ◌⊎◌, ◌≤◌, ◌<◌, ◌+◌, ◌*◌, ◌++◌, ◌∷◌, ℕ, zero, suc, ℤ, pos, List, [], codes, replicate, Option, Some, None, Ok, Err, Contains}
-use Rattle.desk_io.specs.declared.lines.TheConstants.{MOST_LINES}
-use Rattle.sgf_tree.specs.declared.reader.TheConstants.{MOST_BYTES}
-use Rattle.desk_io.specs.Files.Told.{absent}
+use Rattle.std.specs.Prelude.{Bool, true, false, ◌≡◌, ◌≢◌, ◌⊎◌, ◌≤◌, ◌<◌, ◌*◌, ◌∷◌, ℕ, ℤ, pos, List, [], codes, replicate, Option, Some, None, Ok, Err}
 use Rattle.std.specs.Str.{IsUtf8}
-use Rattle.desk_io.specs.Files.{Told, Files, told_file}
-use Rattle.desk_io.specs.Lines.{IsLine}
+use Rattle.desk_io.specs.Files.{Files, told_file}
 use Rattle.go_grid.specs.declared.grid.Cell.TheVariants as cell
 use Rattle.go_grid.specs.declared.grid.Colour.{Colour}
 use Rattle.go_grid.specs.declared.grid.Colour.TheVariants as colour
-use Rattle.sgf_go.specs.declared.fault.FileFault.{FileFault}
 use Rattle.sgf_go.specs.declared.settings.Settings.{Settings}
 use Rattle.sgf_go.specs.declared.settings.Setup.{Setup}
-use Rattle.desk_io.specs.Files.{IsLonger, IsTold}
-use Rattle.sgf_go.specs.File.{HasFewBytes, Reads}
 use Rattle.whole_rules.specs.declared.states.Move.{Move}
 use Rattle.whole_rules.specs.declared.states.MoveError.{MoveError}
 use Rattle.endgame_solver.specs.declared.limits.Limits.{Limits}
@@ -23,8 +16,6 @@ use Rattle.engine_player.specs.EngineGame.{EngineGame, EngineGoes, GoesByHand}
 use Rattle.engine_player.specs.Opening.{OpensGame, OpensNone}
 use Rattle.gtp_engine.specs.declared.moves.Wanted.{Wanted}
 use Rattle.gtp_engine.specs.declared.command.Command.{Command}
-use Rattle.gtp_words.specs.declared.end.GtpEnd.{GtpEnd}
-use Rattle.gtp_words.specs.declared.end.GtpEnd.TheVariants.{Quit, InputEnded, TooManyLines}
 use Rattle.gtp_engine.specs.declared.reply.Refusal.{Refusal}
 use Rattle.gtp_engine.specs.declared.reply.Refusal.TheVariants.{UnknownCommand, SyntaxError, UnacceptableSize, GameHasBegun, CannotSolve, NotInTurn, IllegalMove, CannotLoadFile}
 use Rattle.gtp_words.specs.Replies.{signed_text}

@@ -6,7 +6,9 @@ ghost use Rattle.go_grid.specs.Region.{Region};
 ghost use Rattle.region_cut.specs.Cut.{AreRegionsOfPlay};
 ghost use Rattle.sgf_go.specs.Komi.{IsInRange};
 ghost use Rattle.sgf_go.specs.Position.{IsFit};
+ghost use Rattle.gtp_words.specs.Asking.{AsksBy};
 ghost use Rattle.gtp_words.specs.declared.loading.Loading.TheVariants.{Position};
+ghost use Rattle.gtp_engine.specs.Asking.{AskedNames, LineNames, OrderNames};
 ghost use Rattle.gtp_engine.specs.inner.Doing.{AsksInRange, CanKeep, HasKomiInRange, IsDone, IsFresh, IsLoadNoted, IsPlainOrder, IsRunning, IsTurnTaken, with_table};
 ghost use Rattle.gtp_engine.specs.inner.Viewed.{asked_of, order_of};
 ghost use Rattle.gtp_engine.specs.Kept.{HasRoomFor, LeavesRoom};
@@ -253,6 +255,8 @@ impl Engine {
         requires few { self.old.loads.count < MOST_LOADS }
         ensures loaded { IfOk result (λ reply. IsObeyed (H.files shelf.old) (H.faults shelf.old)
             (H.faults shelf.new) id.now (loadsgf file.now after) self.old reply self.new) }
+        ensures asked { AsksBy H.asks (OrderNames (loadsgf file.now after))
+            shelf.old shelf.new result }
         ensures same { OnErr result (self.new ≡ self.old) }
         ensures same_files { H.files shelf.new ≡ H.files shelf.old }
         ensures later { H.faults shelf.old ≤ H.faults shelf.new }
@@ -308,6 +312,8 @@ impl Engine {
         requires komi { HasKomiInRange (order_of request) }
         ensures obeyed { IfOk result (λ reply. IsObeyed (H.files shelf.old) (H.faults shelf.old)
             (H.faults shelf.new) id.now (order_of request.entry) self.old reply self.new) }
+        ensures asked { AsksBy H.asks (OrderNames (order_of request.entry))
+            shelf.old shelf.new result }
         ensures same { OnErr result (self.new ≡ self.old) }
         ensures same_files { H.files shelf.new ≡ H.files shelf.old }
         ensures later { H.faults shelf.old ≤ H.faults shelf.new }
@@ -338,6 +344,8 @@ impl Engine {
         requires komi { AsksInRange (asked_of asked) }
         ensures met { IfOk result (λ answer. IsMet (H.files shelf.old) (H.faults shelf.old)
             (H.faults shelf.new) id.now (asked_of asked.entry) self.old answer.reply self.new) }
+        ensures asked { AsksBy H.asks (AskedNames (asked_of asked.entry))
+            shelf.old shelf.new result }
         ensures quit { IfOk result (λ answer. answer.quit ≡ is_last (asked_of asked.entry)) }
         ensures same { OnErr result (self.new ≡ self.old) }
         ensures same_files { H.files shelf.new ≡ H.files shelf.old }
@@ -371,6 +379,7 @@ impl Engine {
         ensures answered { IfOk result (λ answer. IsEngineReply (H.files shelf.old)
             (H.faults shelf.old)
             (H.faults shelf.new) line.now self.old answer.reply self.new answer.quit) }
+        ensures asked { AsksBy H.asks (LineNames line.now) shelf.old shelf.new result }
         ensures room { LeavesRoom self.old.table self.new.table }
         ensures same { OnErr result (self.new ≡ self.old) }
         ensures same_files { H.files shelf.new ≡ H.files shelf.old }

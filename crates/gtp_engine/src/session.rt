@@ -4,8 +4,10 @@ ghost use Rattle.std.specs.Prelude.{◌≡◌, ◌≤◌, List, ℕ, [], Some, l
 ghost use Rattle.desk_io.specs.Lines.{UsesLines};
 ghost use Rattle.desk_io.specs.Outside.{Rose};
 ghost use Rattle.gtp_words.specs.declared.end.GtpEnd.TheVariants.{ReadFault, WriteFault};
+ghost use Rattle.gtp_words.specs.Asking.{AsksInSession};
 ghost use Rattle.gtp_words.specs.Loads.{RoseBy};
 ghost use Rattle.gtp_words.specs.Sessions.{WritesByEnd};
+ghost use Rattle.gtp_engine.specs.Asking.{LineNames};
 ghost use Rattle.gtp_engine.specs.Session.{AnswersLine, Table, first_table};
 ghost use Rattle.gtp_engine.specs.Written.{unused};
 
@@ -18,6 +20,7 @@ use std::sync::ledger::Ledger;
 
 impl AnswersLines for Engine {
     ghost use Rattle.gtp_engine.specs.declared.limits.EngineLimits.{EngineLimits};
+    ghost use Rattle.gtp_engine.specs.Asking.{LineNames};
     ghost use Rattle.gtp_engine.specs.Kept.{CanAnswer};
     ghost use Rattle.gtp_engine.specs.Session.{AnswersLine, Table};
     ghost use Rattle.gtp_engine.specs.Written.{loaded};
@@ -31,6 +34,8 @@ impl AnswersLines for Engine {
     ghost loaded = { loaded };
 
     ghost replies = { AnswersLine };
+
+    ghost names = { LineNames };
 
     ghost has_room = { CanAnswer };
 
@@ -58,6 +63,8 @@ impl Engine {
             → WritesByEnd Table (AnswersLine self.old.limits (H.files shelf.old))
             self.new.loads.failures first_table bytes (K.holds out.old) (K.holds out.new)
             self.new.table (S.left lines.new) result }
+        ensures asked { (bytes : List ℕ) → S.left lines.old ≡ Some bytes → AsksInSession H.asks
+            LineNames bytes shelf.old (S.left lines.new) shelf.new result }
         ensures counted { RoseBy (length self.new.loads.failures) (H.faults shelf.old)
             (H.faults shelf.new) }
         ensures read_fault { result ≡ ReadFault → Rose (S.faults lines.old) (S.faults lines.new) }

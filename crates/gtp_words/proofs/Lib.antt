@@ -4,6 +4,7 @@ pub mod FileLemmas
 pub mod LoadLemmas
 pub mod FailedLoadLemmas
 pub mod TakenLineLemmas
+pub mod AskingLemmas
 pub mod OneTextLaws
 pub mod OneWordsLaws
 pub mod SessionLemmas

@@ -4,7 +4,7 @@ use Rattle.std.specs.List.Sorted.{IsStrictlyIncreasing}
 use Rattle.std.proofs.lemmas.Bool.{cases_lt}
 use Rattle.std.proofs.lemmas.List.{get_or_append_left, get_or_push, length_push}
 use Rattle.std.proofs.lemmas.List.Elements.{Contains-get_or, Contains-push_cases}
-use Rattle.gtp_words.specs.Loads.{AreLoads, Loads}
+use Rattle.gtp_words.specs.Loads.{AreLoads}
 
 -- one more load, which was made
 pub loads_more : (n : ℕ) (failed : List ℕ) → AreLoads (record { count = n; failures = failed }) → AreLoads (record { count = n + 1; failures = failed })

@@ -4,5 +4,6 @@ pub mod Replies
 pub mod Loads
 pub mod Files
 pub mod Sessions
+pub mod Asking
 pub mod Laws
 pub mod inner

@@ -6,9 +6,10 @@ ghost use Rattle.desk_io.specs.Files.{Files};
 ghost use Rattle.desk_io.specs.Lines.{UsesLines};
 ghost use Rattle.desk_io.specs.Outside.{Appends, HasCause, Rose};
 ghost use Rattle.gtp_words.specs.declared.end.GtpEnd.TheVariants.{ReadFault, WriteFault};
+ghost use Rattle.gtp_words.specs.Asking.{AsksBy, AsksInSession};
 ghost use Rattle.gtp_words.specs.Loads.{Fate, RoseBy, unloaded};
 ghost use Rattle.gtp_words.specs.Sessions.{IsReply, Loaded, WritesByEnd};
-ghost use Rattle.gtp_words.specs.inner.Taking.{IsSomeNoted, LineTaken};
+ghost use Rattle.gtp_words.specs.inner.Taking.{AskedOnLine, IsSomeNoted, LineTaken};
 
 use crate::end::GtpEnd;
 use crate::loads::MOST_LOADS;
@@ -45,6 +46,9 @@ pub trait AnswersLines {
     /// What is replied to a line by the rules, where the shelf holds these files.
     ghost replies: { Rules → Option Files → List ℕ → Fate → State → List ℕ → State → Bool → Type 0 };
 
+    /// The name of the file that a line asks for, if it asks for one.
+    ghost names: { List ℕ → Option (List ℕ) → Type 0 };
+
     /// So many lines more can be answered.
     ghost has_room: { ℕ → State → Type 0 };
 
@@ -60,6 +64,7 @@ pub trait AnswersLines {
         ensures answered { IfOk result (λ answer. IsReply State (replies (rules self.old)
             (H.files shelf.old)) (H.faults shelf.old) (H.faults shelf.new) line.now
             (loaded self.old) answer.reply (loaded self.new) answer.quit) }
+        ensures asked { AsksBy H.asks (names line.now) shelf.old shelf.new result }
         ensures rules { rules self.new ≡ rules self.old }
         ensures room { (n : ℕ) → has_room (n + 1) (loaded self.old).state
             → has_room n (loaded self.new).state }
@@ -97,6 +102,10 @@ fn take_line<A: AnswersLines, H: Shelf, S: Source, K: Sink, L: Ledger>(
         × LineTaken A.State (A.replies (A.rules engine.old) (H.files shelf.old))
         (H.faults shelf.old) (H.faults shelf.new) (A.loaded engine.old) (reader.old ++ bytes)
         (K.holds out.old) (K.holds out.new) result (A.loaded engine.new) (reader.new ++ rest) }
+    ensures asked { (bytes : List ℕ) → S.left lines.old ≡ Some bytes → (rest : List ℕ)
+        × (S.left lines.new ≡ Some rest)
+        × AskedOnLine H.asks A.names (reader.old ++ bytes) shelf.old (reader.new ++ rest) shelf.new
+        result }
     ensures noted { IsSomeNoted (H.faults shelf.old) (H.faults shelf.new)
         (A.loaded engine.old).loads (A.loaded engine.new).loads }
     ensures rules { A.rules engine.new ≡ A.rules engine.old }
@@ -142,6 +151,8 @@ pub fn run_session<A: AnswersLines, H: Shelf, S: Source, K: Sink, L: Ledger>(
         → WritesByEnd A.State (A.replies (A.rules engine.old) (H.files shelf.old))
         (A.loaded engine.new).loads.failures (A.loaded engine.old).state bytes (K.holds out.old)
         (K.holds out.new) (A.loaded engine.new).state (S.left lines.new) result }
+    ensures asked { (bytes : List ℕ) → S.left lines.old ≡ Some bytes → AsksInSession H.asks A.names
+        bytes shelf.old (S.left lines.new) shelf.new result }
     ensures counted { RoseBy (length (A.loaded engine.new).loads.failures) (H.faults shelf.old)
         (H.faults shelf.new) }
     ensures rules { A.rules engine.new ≡ A.rules engine.old }

@@ -1,5 +1,5 @@
 -- What single orders leave of an engine.
-use Rattle.std.specs.Prelude.{◌≡◌, ℕ, List, [], Option}
+use Rattle.std.specs.Prelude.{◌≡◌, ℕ, List, Option}
 use Rattle.desk_io.specs.Files.{Files}
 use Rattle.board_words.specs.Words.{colour_word}
 use Rattle.gtp_words.specs.Loads.{Fate, NotesFate, failed_more, made_more}

@@ -1,5 +1,5 @@
 -- What single orders leave behind.
-use Rattle.std.specs.Prelude.{◌≡◌, ◌+◌, ◌++◌, ◌∷◌, [], ℕ, List, Some, None}
+use Rattle.std.specs.Prelude.{◌≡◌, [], ℕ, List, Some, None}
 use Rattle.go_grid.specs.declared.grid.Colour.{Colour}
 use Rattle.engine_player.specs.EngineGame.{EngineGame}
 use Rattle.gtp_words.specs.declared.loading.Loading.{Loading}

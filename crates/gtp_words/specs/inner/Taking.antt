@@ -1,10 +1,11 @@
 -- What a line of a session leaves when it is taken.
-use Rattle.std.specs.Prelude.{Bool, true, false, ◌≡◌, ◌≢◌, ◌++◌, ℕ, List, [], Option, Some, None}
+use Rattle.std.specs.Prelude.{Bool, true, false, ◌≡◌, ◌≢◌, ◌⊎◌, ◌++◌, ℕ, List, [], Option, Some, None}
 use Rattle.std.specs.Io.KnownBytes.{append_known}
 use Rattle.desk_io.specs.Lines.{IsLine}
 use Rattle.gtp_words.specs.declared.end.GtpEnd.{GtpEnd}
 use Rattle.gtp_words.specs.declared.end.GtpEnd.TheVariants.{Quit, InputEnded, ReadFault, WriteFault, TooManyLines, Memory}
 use Rattle.gtp_words.specs.Loads.{Fate, Loads, NotesFate}
+use Rattle.gtp_words.specs.Asking.{Asking, AsksOnLine, Naming}
 use Rattle.gtp_words.specs.Sessions.{Answers, IsReply, Loaded}
 
 -- the line that the bytes begin with is answered, and these bytes come after it
@@ -29,3 +30,12 @@ LineTaken A Reply before now a bytes holds holds' (Some TooManyLines) b rest = �
 -- something becomes of a load, or there is none, and it is noted
 abbrev pub IsSomeNoted : ℕ → ℕ → Loads → Loads → Type 0
 IsSomeNoted before now a b = (fate : Fate) × NotesFate before now fate a b
+
+-- Which file was asked for on a line, by the end of the session that comes of it: that of the line, where it is answered; where memory is
+-- refused that or none, and the line is still to be answered; and none where no line is read.
+abbrev pub AskedOnLine : {H : Type 0} → Asking H → Naming → List ℕ → H → List ℕ → H → Option GtpEnd → Type 0
+AskedOnLine asks Named bytes s rest t (Some InputEnded) = (rest ≡ bytes) × (t ≡ s)
+AskedOnLine asks Named bytes s rest t (Some ReadFault) = (rest ≡ bytes) × (t ≡ s)
+AskedOnLine asks Named bytes s rest t (Some Memory) = (rest ≡ bytes) × ((t ≡ s) ⊎ ((behind : List ℕ) × AsksOnLine asks Named bytes s behind t))
+AskedOnLine asks Named bytes s rest t (Some TooManyLines) = ⊥
+AskedOnLine asks Named bytes s rest t end = AsksOnLine asks Named bytes s rest t

@@ -5,14 +5,18 @@ use Rattle.gtp_engine.specs.Session.{AnswersLine, Table, first_table}
 use Rattle.desk_io.specs.Desk.{desk, known, outside}
 use Rattle.endgame_run.specs.Engine.{engine_rules}
 use Rattle.endgame_run.specs.File.{most_of_engine}
-use Rattle.endgame_run.proofs.EngineLaws.{engine_ran, engine_refused, session_taken}
+use Rattle.endgame_run.proofs.EngineLaws.{asked_behind, asked_nothing, engine_ran, engine_refused, session_taken}
 use Rattle.endgame_run.proofs.TopLaws.{later_refl, nothing_taken, rest_of}
 use Rattle.endgame_run.proofs.engine.run_gtp.Goals as goal
 
 pub returns-in_default-clause-ran : goal.returns-in_default-clause-ran
 returns-in_default-clause-ran g c =
     let a = known (outside g.H.Shelf g.S.Source g.K.Sink) (desk c.args.shelf.now c.args.lines.now c.args.out.now) in
-    record { played = engine_refused (engine_rules c.args.limits) a a refl refl refl; taken = nothing_taken most_of_engine a.input.left }
+    record {
+      played = engine_refused (engine_rules c.args.limits) a a refl refl refl;
+      taken = nothing_taken most_of_engine a.input.left;
+      asked = asked_nothing g.H.Shelf.asks (engine_rules c.args.limits) c.args.shelf.now a.input.left;
+    }
 
 pub returns-in_default-clause-later : goal.returns-in_default-clause-later
 returns-in_default-clause-later g c = later_refl (known (outside g.H.Shelf g.S.Source g.K.Sink) (desk c.args.shelf.now c.args.lines.now c.args.out.now))
@@ -29,6 +33,8 @@ returns-clause-ran g c =
           (ap (λ e. e.limits) c.in-Ok.ensures) (run.text bytes told))
           run.read_fault run.write_fault run.later_writes c.close.ensures.later_writes c.close.ensures.closed;
       taken = session_taken _ _ run.used;
+      asked = asked_behind g.H.Shelf.asks (engine_rules c.args.limits) c.args.shelf.now a.input.left c.run-end.new.shelf b.input.left c.run-end.result (g.K.Sink.faults c.run-end.new.out) b.writes mid b.holds
+          c.close.result run.asked c.close.ensures.closed;
     }
 
 pub returns-clause-later : goal.returns-clause-later

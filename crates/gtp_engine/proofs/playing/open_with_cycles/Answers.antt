@@ -1,4 +1,3 @@
-use Rattle.std.proofs.Common.{refl}
 use Rattle.gtp_engine.proofs.MoveLemmas.{cannot_open_with_cycles}
 use Rattle.gtp_engine.proofs.playing.open_with_cycles.Goals as goal
 

@@ -1,7 +1,8 @@
-use Rattle.std.proofs.Common.{◌≡◌, ◌+◌, ◌-◌, ◌++◌, [], length, refl, sym, ap, ◌∙◌, subst, arith, le_refl, le_trans, Some, None}
+use Rattle.std.proofs.Common.{◌+◌, ◌-◌, ◌++◌, [], length, refl, sym, ap, ◌∙◌, subst, arith, le_refl, le_trans, Some, None}
 use Rattle.desk_io.specs.declared.lines.TheConstants.{MOST_LINES}
 use Rattle.desk_io.proofs.UsedLineLemmas.{used_at, used_most, used_none, used_then}
 use Rattle.gtp_words.specs.Loads.{RoseBy}
+use Rattle.gtp_words.proofs.AskingLemmas.{AskedBehind, asked_end, asked_line, asked_over, asked_start}
 use Rattle.gtp_words.proofs.SessionLemmas.{Going, going_end, going_line, going_over, going_start}
 use Rattle.gtp_words.proofs.FailedLoadLemmas.{AreBelow, noted_below, noted_loads, noted_rose, unloaded_below}
 use Rattle.gtp_words.proofs.TakenLineLemmas.{Taken}
@@ -26,6 +27,7 @@ session-init g c =
       omega (arith, ap length c.new-reader.ensures),
       omega arith,
       c.requires.room,
+      asked_start g.H.Shelf.asks g.A.AnswersLines.names left c.args.shelf.now c.new-reader.result c.new-reader.ensures,
     )
 
 pub session-preserved : goal.session-preserved
@@ -53,6 +55,8 @@ session-preserved g c =
       c.take_line.ensures.few_held,
       omega (arith, c.session-test.true),
       c.take_line.ensures.room c.in_default.is (MOST_LINES - (at._read + 1)) (subst (λ n. g.A.AnswersLines.has_room n old.state) (omega (arith, c.session-test.true)) inv.12),
+      asked_line g.H.Shelf.asks g.A.AnswersLines.names left₀ c.args.shelf.now at.reader left at.shelf inv.13 held left' c.take_line.new.shelf
+          (subst (λ r. AskedBehind g.H.Shelf.asks g.A.AnswersLines.names at.reader left at.shelf held left' c.take_line.new.shelf r) c.in_default.is c.take_line.ensures.asked),
     )
 
 pub returns-in-Some-clause-text : goal.returns-in-Some-clause-text
@@ -66,6 +70,12 @@ returns-in-Some-clause-text g c =
     c.take_line.ensures.few_held
     (subst (λ l. Taken State (replies l files) before now old at.reader left holds holds' end new held left') inv.1
     (subst (λ f. Taken State (replies (rules at.engine) f) before now old at.reader left holds holds' end new held left') inv.5 c.in-Some.ensures.taken))
+
+pub returns-in-Some-clause-asked : goal.returns-in-Some-clause-asked
+returns-in-Some-clause-asked g c =
+    let at = c.session in
+    asked_end g.H.Shelf.asks g.A.AnswersLines.names (g.S.Source.left c.args.lines.now) c.args.shelf.now at.reader (g.S.Source.left at.lines) at.shelf at.invariant.13 c.take_line.new.reader
+    (g.S.Source.left c.take_line.new.lines) c.take_line.new.shelf c.in-Some.end c.take_line.ensures.few_held c.in-Some.ensures.asked
 
 pub returns-in-Some-clause-counted : goal.returns-in-Some-clause-counted
 returns-in-Some-clause-counted g c =
@@ -89,6 +99,11 @@ returns-clause-text g c =
     let left₀ = g.S.Source.left c.args.lines.now in let holds₀ = g.K.Sink.holds c.args.out.now in let left = g.S.Source.left at.lines in let holds = g.K.Sink.holds at.out in
     going_over g.A.AnswersLines.State (g.A.AnswersLines.replies (g.A.AnswersLines.rules start) files) (g.A.AnswersLines.loaded start).state left₀ holds₀
     (g.A.AnswersLines.loaded at.engine) at._read at.reader left holds inv.0 (omega (arith, c.session-test.false, inv.11)) inv.10
+
+pub returns-clause-asked : goal.returns-clause-asked
+returns-clause-asked g c =
+    let at = c.session in
+    asked_over g.H.Shelf.asks g.A.AnswersLines.names (g.S.Source.left c.args.lines.now) c.args.shelf.now at.reader (g.S.Source.left at.lines) at.shelf at.invariant.13 at.invariant.10
 
 pub take_line-requires-clause-room : goal.take_line-requires-clause-room
 take_line-requires-clause-room g c =

@@ -2,6 +2,7 @@ use Rattle.std.proofs.Common.{◌≡◌, ◌≤◌, ◌-◌, [], length}
 use Rattle.desk_io.specs.declared.lines.TheConstants.{MOST_LINES}
 use Rattle.desk_io.specs.Lines.{UsesLines}
 use Rattle.gtp_words.specs.Loads.{RoseBy}
+use Rattle.gtp_words.proofs.AskingLemmas.{HasAsked}
 use Rattle.gtp_words.proofs.SessionLemmas.{Going}
 use Rattle.gtp_words.proofs.FailedLoadLemmas.{AreBelow}
 use Rattle.gtp_words.proofs.sessions.run_session.Given as goal
@@ -17,3 +18,4 @@ invariant-session g l =
     × (g.S.Source.faults l.fn.lines ≤ g.S.Source.faults l.lines) × (g.K.Sink.faults l.fn.out ≤ g.K.Sink.faults l.out)
     × UsesLines 1024 0 l._read [] (g.S.Source.left l.fn.lines) l.reader (g.S.Source.left l.lines) × (length l.reader ≤ 1024) × (l._read ≤ MOST_LINES)
     × g.A.AnswersLines.has_room (MOST_LINES - l._read) (loaded l.engine).state
+    × HasAsked g.H.Shelf.asks g.A.AnswersLines.names (g.S.Source.left l.fn.lines) l.fn.shelf l.reader (g.S.Source.left l.lines) l.shelf

@@ -3,6 +3,7 @@ use Rattle.std.specs.Io.KnownBytes.{append_known}
 use Rattle.desk_io.specs.Lines.{IsFound, UsesLines}
 use Rattle.desk_io.proofs.UsedLineLemmas.{used_line, used_none}
 use Rattle.gtp_words.specs.Loads.Fate.{no_load}
+use Rattle.gtp_words.proofs.AskingLemmas.{asked_cut, asked_last, asked_maybe, asked_on, asked_waiting, unasked_ended, unasked_unread}
 use Rattle.gtp_words.proofs.TakenLineLemmas.{taken_cut, taken_last, taken_nothing, taken_on, taken_refused, taken_unread}
 use Rattle.gtp_words.proofs.sessions.take_line.Goals as goal
 
@@ -110,3 +111,43 @@ returns-then-answer-clause-noted g c = (c.in-Ok.ensures.answered.fate, c.in-Ok.e
 
 pub returns-clause-noted : goal.returns-clause-noted
 returns-clause-noted g c = (c.in-Ok.ensures.answered.fate, c.in-Ok.ensures.answered.noted)
+
+pub returns-in-Ok-None-clause-asked : goal.returns-in-Ok-None-clause-asked
+returns-in-Ok-None-clause-asked g c =
+    let asks = g.H.Shelf.asks in let names = g.A.AnswersLines.names in let held = c.find_line.new.self in
+    let left = g.S.Source.left c.args.lines.now in let left' = g.S.Source.left c.find_line.new.lines in
+    unasked_ended asks names c.args.reader.now held left left' c.find_line.ensures.same c.args.shelf.now
+
+pub returns-in-Err-clause-asked : goal.returns-in-Err-clause-asked
+returns-in-Err-clause-asked g c =
+    let asks = g.H.Shelf.asks in let names = g.A.AnswersLines.names in let held = c.find_line.new.self in
+    let left = g.S.Source.left c.args.lines.now in let left' = g.S.Source.left c.find_line.new.lines in
+    unasked_unread asks names c.args.reader.now held left left' c.find_line.ensures.same c.args.shelf.now
+
+pub returns-in_default-clause-asked : goal.returns-in_default-clause-asked
+returns-in_default-clause-asked g c =
+    let asks = g.H.Shelf.asks in let names = g.A.AnswersLines.names in let held = c.find_line.new.self in
+    let left = g.S.Source.left c.args.lines.now in let left' = g.S.Source.left c.find_line.new.lines in
+    let found = subst (λ x. IsFound 1024 held left' x) c.in-Ok-Some.field-0-is c.in-Ok-Some.ensures.found in
+    asked_waiting asks names c.args.reader.now held left left' c.find_line.ensures.same c.args.shelf.now c.in-Ok-Some.found found c.front.result.now c.front.ensures c.answer_line.new.shelf (asked_maybe asks (names c.front.result.now) c.args.shelf.now c.answer_line.result c.answer_line.new.shelf c.answer_line.ensures.asked)
+
+pub returns-in-Err-say-clause-asked : goal.returns-in-Err-say-clause-asked
+returns-in-Err-say-clause-asked g c =
+    let asks = g.H.Shelf.asks in let names = g.A.AnswersLines.names in let held = c.find_line.new.self in
+    let left = g.S.Source.left c.args.lines.now in let left' = g.S.Source.left c.find_line.new.lines in
+    let found = subst (λ x. IsFound 1024 held left' x) c.in-Ok-Some.field-0-is c.in-Ok-Some.ensures.found in
+    asked_cut asks names c.args.reader.now held left left' c.find_line.ensures.same c.args.shelf.now c.in-Ok-Some.found found c.front.result.now c.front.ensures c.answer_line.new.shelf c.drop_front.new.self c.drop_front.ensures c.in-Ok.ensures.asked
+
+pub returns-then-answer-clause-asked : goal.returns-then-answer-clause-asked
+returns-then-answer-clause-asked g c =
+    let asks = g.H.Shelf.asks in let names = g.A.AnswersLines.names in let held = c.find_line.new.self in
+    let left = g.S.Source.left c.args.lines.now in let left' = g.S.Source.left c.find_line.new.lines in
+    let found = subst (λ x. IsFound 1024 held left' x) c.in-Ok-Some.field-0-is c.in-Ok-Some.ensures.found in
+    asked_last asks names c.args.reader.now held left left' c.find_line.ensures.same c.args.shelf.now c.in-Ok-Some.found found c.front.result.now c.front.ensures c.answer_line.new.shelf c.drop_front.new.self c.drop_front.ensures c.in-Ok.ensures.asked
+
+pub returns-clause-asked : goal.returns-clause-asked
+returns-clause-asked g c =
+    let asks = g.H.Shelf.asks in let names = g.A.AnswersLines.names in let held = c.find_line.new.self in
+    let left = g.S.Source.left c.args.lines.now in let left' = g.S.Source.left c.find_line.new.lines in
+    let found = subst (λ x. IsFound 1024 held left' x) c.in-Ok-Some.field-0-is c.in-Ok-Some.ensures.found in
+    asked_on asks names c.args.reader.now held left left' c.find_line.ensures.same c.args.shelf.now c.in-Ok-Some.found found c.front.result.now c.front.ensures c.answer_line.new.shelf c.drop_front.new.self c.drop_front.ensures c.in-Ok.ensures.asked

@@ -1,4 +1,7 @@
-use Rattle.std.proofs.Common.{length, map, sym, ap, ◌∙◌, subst}
+use Rattle.std.proofs.Common.{length, map, inl, refl, sym, ap, ◌∙◌, subst}
+use Rattle.gtp_words.proofs.AskingLemmas.{asked_err, asked_wider, words_name}
+use Rattle.board_session.specs.Asking.{AskedNames, LineNames}
+use Rattle.board_session.specs.Orders.{Asks}
 use Rattle.board_session.specs.inner.Viewed.{asked_of}
 use Rattle.gtp_words.specs.Words.{AreWords, HasId}
 use Rattle.board_session.proofs.AnswerLemmas.{answered_if_ok, grown_if_ok, some_words}
@@ -34,3 +37,21 @@ returns-clause-later_loads g c = c.meet-answer.ensures.later
 
 pub returns-clause-steps : goal.returns-clause-steps
 returns-clause-steps g c = c.meet-answer.ensures.steps
+
+pub returns-clause-asked : goal.returns-clause-asked
+returns-clause-asked g c =
+    let words = map (λ w. w.now) c.in_ok-words.words.items in let rest = map (λ w. w.now) c.take_id-headed.result.rest.now in let id = c.take_id-headed.result.id.now in
+    let named = words_name Asks AskedNames c.args.line.now id words rest (asked_of c.read_asked.result)
+    (subst (λ t. AreWords t words) (c.deref.ensures.value ∙ c.in_ok-text.ensures) c.in_ok-words.ensures)
+    (some_words (λ w. w.now) c.in_ok-words.words.items c.in_ok-words.words.len c.is_empty.result c.if-is_empty.false c.is_empty.ensures (ap length (sym c.deref-2.ensures.value) ∙ c.deref-2.ensures.len))
+    (subst (λ ws. HasId (map (λ w. w.now) ws) id rest) c.deref-2.ensures.value c.take_id-headed.ensures)
+    c.read_asked.ensures in
+    asked_wider g.H.Shelf.asks (AskedNames (asked_of c.read_asked.result)) c.args.shelf.now (LineNames c.args.line.now) c.meet-answer.result c.meet-answer.new.shelf named c.meet-answer.ensures.asked
+
+pub returns-in_err-text-clause-asked : goal.returns-in_err-text-clause-asked
+returns-in_err-text-clause-asked g c =
+    asked_err g.H.Shelf.asks (LineNames c.args.line.now) c.args.shelf.now c.from_residual.result c.args.shelf.now c.from_residual.ensures.0 (inl refl)
+
+pub returns-in_err-words-clause-asked : goal.returns-in_err-words-clause-asked
+returns-in_err-words-clause-asked g c =
+    asked_err g.H.Shelf.asks (LineNames c.args.line.now) c.args.shelf.now c.from_residual-in_err-words.result c.args.shelf.now c.from_residual-in_err-words.ensures.0 (inl refl)

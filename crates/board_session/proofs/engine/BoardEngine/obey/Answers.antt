@@ -1,9 +1,13 @@
-use Rattle.std.proofs.Common.{ap, refl, arith, subst, sym, IfOk}
+use Rattle.std.proofs.Common.{ap, refl, rules, arith, subst, sym, None, IfOk}
+use Rattle.gtp_words.specs.Asking.{AsksBy}
+use Rattle.gtp_words.proofs.AskingLemmas.{asked_none}
+use Rattle.board_session.specs.Asking.{OrderNames}
 use Rattle.board_session.specs.inner.Viewed.{order_of}
 use Rattle.board_session.specs.inner.Analysing.{IsReported}
 use Rattle.board_session.specs.inner.Doing.{IsGenerated, IsSuggested}
 use Rattle.board_session.specs.inner.Obeying.{IsObeyed}
 use Rattle.board_session.proofs.AnswerLemmas.{generated_obeyed, plain_obeyed, plain_same, reported_obeyed, suggested_obeyed}
+use Rattle.board_session.proofs.AskingLemmas.{plain_names}
 use Rattle.board_session.proofs.engine.BoardEngine.obey.Goals as goal
 
 pub returns-in_default : goal.returns-in_default
@@ -11,6 +15,7 @@ returns-in_default g c =
     let inside = c.self-in_default.inside in let is = c.self-in_default.view_is in let u = c.obey.new.self in record {
       obeyed = plain_obeyed inside.limits inside.loads inside.session u c.args.self.now is (g.H.Shelf.files c.args.shelf.now) (g.H.Shelf.faults c.args.shelf.now) c.args.id.now
           (order_of c.args.request) c.obey.result c.obey.ensures.obeyed;
+      asked = asked_none g.H.Shelf.asks (OrderNames (order_of c.args.request)) c.args.shelf.now c.obey.result (plain_names (order_of c.args.request) (search rules));
       same = plain_same inside.limits inside.loads inside.session u c.args.self.now is c.obey.result c.obey.ensures.same;
       same_files = refl;
       later = omega arith;
@@ -55,3 +60,19 @@ pub returns-in-LoadSgf-clause-obeyed : goal.returns-in-LoadSgf-clause-obeyed
 returns-in-LoadSgf-clause-obeyed g c =
     let files = g.H.Shelf.files c.args.shelf.now in let before = g.H.Shelf.faults c.args.shelf.now in let now = g.H.Shelf.faults c.load_file.new.shelf in
     subst (λ o. IfOk c.load_file.result (λ reply. IsObeyed files before now c.args.id.now o c.args.self.now reply c.load_file.new.self)) (sym (ap order_of c.in-LoadSgf.is)) c.load_file.ensures.loaded
+
+pub returns-in-GenMove-clause-asked : goal.returns-in-GenMove-clause-asked
+returns-in-GenMove-clause-asked g c =
+    asked_none g.H.Shelf.asks (OrderNames (order_of c.args.request)) c.args.shelf.now c.generate.result (subst (λ o. OrderNames o None) (sym (ap order_of c.in-GenMove.is)) refl)
+
+pub returns-in-RegGenMove-clause-asked : goal.returns-in-RegGenMove-clause-asked
+returns-in-RegGenMove-clause-asked g c =
+    asked_none g.H.Shelf.asks (OrderNames (order_of c.args.request)) c.args.shelf.now c.suggest.result (subst (λ o. OrderNames o None) (sym (ap order_of c.in-RegGenMove.is)) refl)
+
+pub returns-in-Analyse-clause-asked : goal.returns-in-Analyse-clause-asked
+returns-in-Analyse-clause-asked g c =
+    asked_none g.H.Shelf.asks (OrderNames (order_of c.args.request)) c.args.shelf.now c.report.result (subst (λ o. OrderNames o None) (sym (ap order_of c.in-Analyse.is)) refl)
+
+pub returns-in-LoadSgf-clause-asked : goal.returns-in-LoadSgf-clause-asked
+returns-in-LoadSgf-clause-asked g c =
+    subst (λ o. AsksBy g.H.Shelf.asks (OrderNames o) c.args.shelf.now c.load_file.new.shelf c.load_file.result) (sym (ap order_of c.in-LoadSgf.is)) c.load_file.ensures.asked

@@ -1,4 +1,4 @@
-use Rattle.std.proofs.Common.{◌≡◌, [], refl, ap, sym, ◌∙◌, subst, IfOk}
+use Rattle.std.proofs.Common.{◌≡◌, [], refl, ap, ◌∙◌, subst, IfOk}
 use Rattle.board_session.specs.Orders.BoardOrder.{ask, known, quit, tell}
 use Rattle.board_session.specs.Session.{answer_text, done, reply_text}
 use Rattle.board_session.specs.inner.Viewed.{order_of}

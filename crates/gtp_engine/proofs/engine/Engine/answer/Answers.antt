@@ -1,6 +1,9 @@
-use Rattle.std.proofs.Common.{length, map, sym, ap, ◌∙◌, subst, arith, refl}
+use Rattle.std.proofs.Common.{length, map, inl, inr, sym, ap, ◌∙◌, subst, arith, refl}
 use Rattle.gtp_engine.specs.inner.Viewed.{asked_of}
 use Rattle.gtp_words.specs.Words.{AreWords, HasId}
+use Rattle.gtp_words.proofs.AskingLemmas.{asked_err, words_name}
+use Rattle.gtp_engine.specs.Asking.{AskedNames, LineNames}
+use Rattle.gtp_engine.specs.Request.{Asks}
 use Rattle.gtp_engine.proofs.AnswerLemmas.{answered_words, some_words}
 use Rattle.gtp_engine.proofs.KomiLemmas.{asks_in_range}
 use Rattle.gtp_engine.proofs.RoomLemmas.{reply_room, same_room}
@@ -42,3 +45,32 @@ returns-then-is_empty-clause-room g c = same_room c.args.self.now.table c.args.s
 
 pub returns-then-is_empty-clause-steps : goal.returns-then-is_empty-clause-steps
 returns-then-is_empty-clause-steps g c regions are = omega arith
+
+pub returns-clause-asked : goal.returns-clause-asked
+returns-clause-asked g c =
+    let words = map (λ w. w.now) c.in_ok-words.words.items in let rest = map (λ w. w.now) c.take_id-headed.result.rest.now in let id = c.take_id-headed.result.id.now in
+    let named = words_name Asks AskedNames c.args.line.now id words rest (asked_of c.read_asked.result)
+    (subst (λ t. AreWords t words) (c.deref.ensures.value ∙ c.in_ok-text.ensures) c.in_ok-words.ensures)
+    (some_words (λ w. w.now) c.in_ok-words.words.items c.in_ok-words.words.len c.is_empty.result c.if-is_empty.false c.is_empty.ensures (ap length (sym c.deref-2.ensures.value) ∙ c.deref-2.ensures.len))
+    (subst (λ ws. HasId (map (λ w. w.now) ws) id rest) c.deref-2.ensures.value c.take_id-headed.ensures)
+    c.read_asked.ensures in
+    let h = c.in_ok-answer.ensures.asked in (h.0, named h.0 h.1, h.2)
+
+pub returns-in_err-answer-clause-asked : goal.returns-in_err-answer-clause-asked
+returns-in_err-answer-clause-asked g c =
+    let words = map (λ w. w.now) c.in_ok-words.words.items in let rest = map (λ w. w.now) c.take_id-headed.result.rest.now in let id = c.take_id-headed.result.id.now in
+    let named = words_name Asks AskedNames c.args.line.now id words rest (asked_of c.read_asked.result)
+    (subst (λ t. AreWords t words) (c.deref.ensures.value ∙ c.in_ok-text.ensures) c.in_ok-words.ensures)
+    (some_words (λ w. w.now) c.in_ok-words.words.items c.in_ok-words.words.len c.is_empty.result c.if-is_empty.false c.is_empty.ensures (ap length (sym c.deref-2.ensures.value) ∙ c.deref-2.ensures.len))
+    (subst (λ ws. HasId (map (λ w. w.now) ws) id rest) c.deref-2.ensures.value c.take_id-headed.ensures)
+    c.read_asked.ensures in
+    asked_err g.H.Shelf.asks (LineNames c.args.line.now) c.args.shelf.now c.from_residual-in_err-answer.result c.meet.new.shelf c.from_residual-in_err-answer.ensures.0
+    (elim c.in_err-answer.ensures.asked [ inl none ↦ inl none | inr h ↦ inr (h.0, named h.0 h.1, h.2) ])
+
+pub returns-in_err-text-clause-asked : goal.returns-in_err-text-clause-asked
+returns-in_err-text-clause-asked g c =
+    asked_err g.H.Shelf.asks (LineNames c.args.line.now) c.args.shelf.now c.from_residual.result c.args.shelf.now c.from_residual.ensures.0 (inl refl)
+
+pub returns-in_err-words-clause-asked : goal.returns-in_err-words-clause-asked
+returns-in_err-words-clause-asked g c =
+    asked_err g.H.Shelf.asks (LineNames c.args.line.now) c.args.shelf.now c.from_residual-in_err-words.result c.args.shelf.now c.from_residual-in_err-words.ensures.0 (inl refl)

@@ -1,10 +1,13 @@
-use Rattle.std.proofs.Common.{refl, rules, subst}
+use Rattle.std.proofs.Common.{inl, inr, refl, rules, subst}
 use Rattle.std.proofs.lemmas.Result.{IfOk-weaker}
 use Rattle.desk_io.specs.Files.{told_file}
 use Rattle.gtp_words.specs.Loads.Fate.{no_load}
+use Rattle.gtp_engine.specs.Asking.{OrderNames}
+use Rattle.gtp_engine.specs.Request.Order.{loadsgf}
 use Rattle.gtp_engine.specs.Session.{refused}
 use Rattle.gtp_engine.specs.declared.reply.Refusal.TheVariants.{CannotLoadFile}
 use Rattle.gtp_words.specs.Files.{IsLoaded, load_settings}
+use Rattle.gtp_words.proofs.AskingLemmas.{asked_none, asked_once}
 use Rattle.gtp_engine.proofs.AnswerLemmas.{loaded_fits, loads_obeyed}
 use Rattle.gtp_engine.proofs.engine.Engine.load_file.Goals as goal
 
@@ -23,3 +26,16 @@ returns-clause-loaded g c =
 pub returns-in-Err-clause-loaded : goal.returns-in-Err-clause-loaded
 returns-in-Err-clause-loaded g c =
     IfOk-weaker c.refuse.result _ _ (λ reply said. (no_load, refused CannotLoadFile, (search rules, (refl, refl)), said, refl, refl)) c.refuse.ensures
+
+pub returns-clause-asked : goal.returns-clause-asked
+returns-clause-asked g c =
+    asked_once g.H.Shelf.asks (OrderNames (loadsgf c.args.file.now c.args.after)) c.args.shelf.now c.note.result c.args.file.now c.load.new.shelf (inl (c.in-Ok.ensures.cases.1, refl))
+    (subst (λ name. g.H.Shelf.asks c.args.shelf.now name c.load.new.shelf) c.in-Ok.ensures.cases.0 c.load.ensures.asked)
+
+pub returns-in_err-loading-clause-asked : goal.returns-in_err-loading-clause-asked
+returns-in_err-loading-clause-asked g c =
+    asked_once g.H.Shelf.asks (OrderNames (loadsgf c.args.file.now c.args.after)) c.args.shelf.now c.from_residual.result c.args.file.now c.load.new.shelf (inl (c.in-Ok.ensures.cases.1, refl))
+    (subst (λ name. g.H.Shelf.asks c.args.shelf.now name c.load.new.shelf) c.in-Ok.ensures.cases.0 c.load.ensures.asked)
+
+pub returns-in-Err-clause-asked : goal.returns-in-Err-clause-asked
+returns-in-Err-clause-asked g c = asked_none g.H.Shelf.asks (OrderNames (loadsgf c.args.file.now c.args.after)) c.args.shelf.now c.refuse.result (inr (search rules, refl))

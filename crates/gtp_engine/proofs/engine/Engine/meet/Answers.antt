@@ -1,5 +1,8 @@
-use Rattle.std.proofs.Common.{◌∙◌, ap, subst, sym}
+use Rattle.std.proofs.Common.{◌≡◌, ◌⊎◌, ◌∙◌, ap, refl, subst, sym, None}
 use Rattle.std.proofs.lemmas.Result.{IfOk-weaker}
+use Rattle.gtp_words.specs.Asking.{AsksNamed}
+use Rattle.gtp_words.proofs.AskingLemmas.{asked_err, asked_none}
+use Rattle.gtp_engine.specs.Asking.{AskedNames}
 use Rattle.gtp_engine.specs.Session.{is_last}
 use Rattle.gtp_engine.specs.inner.Written.{IsMet}
 use Rattle.gtp_engine.specs.inner.Viewed.{asked_of}
@@ -26,3 +29,21 @@ pub returns-in_ok-reply-in-Something-clause-met : goal.returns-in_ok-reply-in-So
 returns-in_ok-reply-in-Something-clause-met g c =
     subst (λ x. IsMet (g.H.Shelf.files c.args.shelf.now) (g.H.Shelf.faults c.args.shelf.now) (g.H.Shelf.faults c.obey.new.shelf) c.args.id.now x c.args.self.now c.in_ok-reply-in-Something.reply c.obey.new.self)
     (sym (ap asked_of c.in-Something.is)) c.in_ok-reply-in-Something.ensures.obeyed
+
+pub returns-in-Unknown-clause-asked : goal.returns-in-Unknown-clause-asked
+returns-in-Unknown-clause-asked g c =
+    asked_none g.H.Shelf.asks (AskedNames (asked_of c.args.asked)) c.args.shelf.now c.refusal.result (subst (λ a. AskedNames a None) (sym (ap asked_of c.in-Unknown.is)) refl)
+
+pub returns-in-Misfit-clause-asked : goal.returns-in-Misfit-clause-asked
+returns-in-Misfit-clause-asked g c =
+    asked_none g.H.Shelf.asks (AskedNames (asked_of c.args.asked)) c.args.shelf.now c.refusal-in-Misfit.result (subst (λ a. AskedNames a None) (sym (ap asked_of c.in-Misfit.is)) refl)
+
+pub returns-in_ok-reply-in-Something-clause-asked : goal.returns-in_ok-reply-in-Something-clause-asked
+returns-in_ok-reply-in-Something-clause-asked g c =
+    subst (λ a. AsksNamed g.H.Shelf.asks (AskedNames a) c.args.shelf.now c.obey.new.shelf) (sym (ap asked_of c.in-Something.is)) c.in_ok-reply-in-Something.ensures.asked
+
+pub returns-in_err-reply-in-Something-clause-asked : goal.returns-in_err-reply-in-Something-clause-asked
+returns-in_err-reply-in-Something-clause-asked g c =
+    let s = c.args.shelf.now in let t = c.obey.new.shelf in
+    asked_err g.H.Shelf.asks (AskedNames (asked_of c.args.asked)) s c.from_residual.result t c.from_residual.ensures.0
+    (subst (λ a. (t ≡ s) ⊎ AsksNamed g.H.Shelf.asks (AskedNames a) s t) (sym (ap asked_of c.in-Something.is)) c.in_err-reply-in-Something.ensures.asked)
