@@ -1,13 +1,13 @@
 -- How the forms that a form is made of are changed one after another.
-use Rattle.std.proofs.Common.{ℕ, ◌+◌, ◌<◌, ◌≤◌, ◌≡◌, List, [], ◌∷◌, ◌++◌, length, get_or, arith, refl, sym, ◌∙◌, inl, inr, ap, subst, ℤ, pos, nat_eq, cond, Some, None}
+use Rattle.std.proofs.Common.{ℕ, ◌+◌, ◌<◌, ◌≤◌, ◌≡◌, List, [], ◌∷◌, ◌++◌, length, get_or, arith, refl, sym, ◌∙◌, inl, inr, ap, subst, ℤ, pos, nat_eq, cond, Some, None, zero, suc, Bool, true, false}
 use Rattle.std.specs.Prelude.{Option, is_some, Result, Err, IfErr}
-use Rattle.std.proofs.lemmas.Bool.{cases_lt, eq-eqb, ne_eqb, true≢false}
+use Rattle.std.proofs.lemmas.Bool.{cases_lt, eq-eqb, eqb-true, ne_eqb, true≢false}
 use Rattle.std.proofs.lemmas.List.{length-append, get_or_append_left}
 use Rattle.std.proofs.Math.Seq.{get_or-append_seam}
 use Rattle.short_games.specs.Tree.{Tree, Trees, Has, tree_at, AreDistinct}
 use Rattle.short_games.specs.Number.{IsNumberTree, number_tree}
 use Rattle.short_games.specs.TextOrder.{IsCanonicalTree, IsCanonicalFor}
-use Rattle.game_store.specs.Meaning.{pick, form, AreIds, AreBelow, Extends, IsIdOf}
+use Rattle.game_store.specs.Meaning.{pick, form, AreIds, AreBelow, Extends, IsIdOf, IsAscending}
 use Rattle.game_store.specs.Forms.{IsOptions}
 use Rattle.short_games.specs.Parts.{IsOption, IsNumberOf, IsInner, IsReached}
 use Rattle.game_store.proofs.EntryLaws.{has-pick, pick-has}
@@ -16,10 +16,11 @@ use Rattle.game_canon.specs.declared.change.Change.{Change}
 use Rattle.game_canon.specs.declared.change.Change.TheVariants.{Negate, Add}
 use Rattle.game_canon.specs.declared.errors.FormError.{FormError}
 use Rattle.game_canon.specs.declared.errors.FormError.TheVariants.{Parts, Bounds, Memory}
-use Rattle.game_canon.specs.inner.Ids.{IsInOrder}
+use Rattle.game_canon.specs.inner.Ids.{IsInOrder, IsPlaceOf}
 use Rattle.game_canon.specs.Reachable.{AreReachable}
-use Rattle.game_canon.specs.inner.Changes.{target, lefts, rights, left_list, right_list, shifted, IsChanged, AreKnown, IsMapped, AreNoted, AreClosed, AreDone, IsRefusedAt, IsRefused}
+use Rattle.game_canon.specs.inner.Changes.{noted, target, lefts, rights, left_list, right_list, shifted, IsChanged, AreKnown, IsMapped, AreNoted, AreClosed, AreDone, IsRefusedAt, IsRefused}
 use Rattle.game_canon.proofs.GameLaws.{has-left, left-has, has-right, right-has}
+use Rattle.game_canon.proofs.IdLaws.{ascending-tail}
 use Rattle.game_canon.proofs.ChangeLaws.{number-shifted, AreImages, changed-form, changed-no_number}
 
 pub changed-number : (Ts : List Tree) (c : Change) (y z : ℤ) (k : ℕ) → IsIdOf Ts (number_tree z) k → z ≡ shifted c y → IsChanged Ts c (number_tree y) k
@@ -27,6 +28,59 @@ changed-number Ts c y z k i e = (
   i.0,
   subst (IsCanonicalFor (target c (number_tree y))) (sym (i.1 ∙ ap number_tree e)) (let s = number-shifted c y in record { canonical = number-canonical 60 (shifted c y); under = s.0; over = s.1 }),
 )
+
+-- what is noted at places in lists
+noted-empty : (is : List ℕ) (i : ℕ) → noted is [] i ≡ None
+noted-empty [] i = refl
+noted-empty (j ∷ is) i = refl
+
+noted-here : (is ks : List ℕ) (j : ℕ) → IsAscending is → j < length is → j < length ks → noted is ks (get_or is j 0) ≡ Some (get_or ks j 0)
+noted-here [] ks j up a b = absurd (omega (arith, a))
+noted-here (i ∷ is) [] j up a b = absurd (omega (arith, b))
+noted-here (i ∷ is) (k ∷ ks) zero up a b = ap (λ t. cond t (Some k) (noted is ks i)) (eq-eqb i i refl)
+noted-here (i ∷ is) (k ∷ ks) (suc j) up a b =
+    ap (λ t. cond t (Some k) (noted is ks (get_or is j 0))) (ne_eqb i (get_or is j 0) (λ e. omega (arith, e, up 0 (suc j) (omega arith) a)))
+    ∙ noted-here is ks j (ascending-tail i is up) (omega (arith, a)) (omega (arith, b))
+
+noted-none : (is ks : List ℕ) (i : ℕ) → ((j : ℕ) → j < length is → j < length ks → get_or is j 0 ≡ i → ⊥) → noted is ks i ≡ None
+noted-none [] ks i other = refl
+noted-none (j ∷ is) [] i other = refl
+noted-none (j ∷ is) (k ∷ ks) i other =
+    ap (λ t. cond t (Some k) (noted is ks i)) (ne_eqb j i (λ e. other 0 (omega arith) (omega arith) e))
+    ∙ noted-none is ks i (λ n a b. other (suc n) (omega (arith, a)) (omega (arith, b)))
+
+pub noted-at_place : (is ks : List ℕ) (i place : ℕ) → IsAscending is → place < length is → get_or is place 0 ≡ i → place < length ks → noted is ks i ≡ Some (get_or ks place 0)
+noted-at_place is ks i place up l e m = subst (λ z. noted is ks z ≡ Some (get_or ks place 0)) e (noted-here is ks place up l m)
+
+pub noted-past : (is ks : List ℕ) (i place : ℕ) → IsAscending is → place < length is → get_or is place 0 ≡ i → length ks ≤ place → noted is ks i ≡ None
+noted-past is ks i place up l e m = noted-none is ks i (λ j a b f. omega (arith, up j place (omega (arith, b, m)) l, e, f))
+
+pub noted-nowhere : (is ks : List ℕ) (i place : ℕ) → IsPlaceOf is i place → ((place < length is) × (get_or is place 0 ≡ i) → ⊥) → IsAscending is → noted is ks i ≡ None
+noted-nowhere is ks i place p other up = noted-none is ks i (λ j a b e. elim (cases_lt j place) [
+  | inl d ↦ omega (arith, e, p.before j d)
+  | inr d ↦ elim (cases_lt place j) [
+    | inl m ↦ omega (arith, e, up place j m a, p.from place (omega arith) (omega (arith, m, a)))
+    | inr m ↦ (let f : j ≡ place = omega (arith, d, m) in other (omega (arith, f, a), sym (ap (λ z. get_or is z 0) f) ∙ e))
+  ]
+])
+
+-- one more is noted
+swapped : (a b : Bool) (k l : Option ℕ) (r : Option ℕ) → (a ≡ true → b ≡ true → ⊥) → cond a k (cond b l r) ≡ cond b l (cond a k r)
+swapped true true k l r other = absurd (other refl refl)
+swapped true false k l r other = refl
+swapped false true k l r other = refl
+swapped false false k l r other = refl
+
+noted-more : (is ks : List ℕ) (k i : ℕ) → IsAscending is → length ks < length is → noted is (ks ++ k ∷ []) i ≡ cond (nat_eq (get_or is (length ks) 0) i) (Some k) (noted is ks i)
+noted-more [] ks k i up l = absurd (omega (arith, l))
+noted-more (j ∷ is) [] k i up l = ap (cond (nat_eq j i) (Some k)) (noted-empty is i)
+noted-more (j ∷ is) (n ∷ ks) k i up l =
+    ap (cond (nat_eq j i) (Some n)) (noted-more is ks k i (ascending-tail j is up) (omega (arith, l)))
+    ∙ swapped (nat_eq j i) (nat_eq (get_or is (length ks) 0) i) (Some n) (Some k) (noted is ks i)
+    (λ a b. omega (arith, eqb-true j i a, eqb-true (get_or is (length ks) 0) i b, up 0 (suc (length ks)) (omega arith) (omega (arith, l))))
+
+pub noted-next : (is ks us : List ℕ) (n k : ℕ) → IsAscending is → n < length is → length ks ≡ n → us ≡ ks ++ k ∷ [] → (i : ℕ) → noted is us i ≡ cond (nat_eq (get_or is n 0) i) (Some k) (noted is ks i)
+noted-next is ks us n k up l e u i = ap (λ z. noted is z i) u ∙ noted-more is ks k i up (omega (arith, l, e)) ∙ ap (λ z. cond (nat_eq (get_or is z 0) i) (Some k) (noted is ks i)) e
 
 -- lists of ids
 pub record IsMapping (note : ℕ → Option ℕ) (is vs : List ℕ) (n : ℕ) : Type 0 where

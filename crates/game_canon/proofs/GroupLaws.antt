@@ -1,6 +1,6 @@
 -- The best of two groups of options, in each of which none covers another.
-use Rattle.std.proofs.Common.{ℕ, ◌+◌, ◌<◌, ◌≤◌, ◌≡◌, ◌⊎◌, List, [], ◌∷◌, ◌++◌, length, get_or, arith, refl, sym, inl, inr, subst, take, drop}
-use Rattle.short_games.specs.Tree.{Tree, Has, sizes, tree_at}
+use Rattle.std.proofs.Common.{ℕ, ◌<◌, ◌≡◌, ◌⊎◌, List, [], ◌∷◌, ◌++◌, length, get_or, arith, refl, sym, inl, inr, subst, take, drop}
+use Rattle.short_games.specs.Tree.{Tree, Has, tree_at}
 use Rattle.game_store.specs.Meaning.{pick}
 use Rattle.game_canon.specs.Groups.{AreUnordered}
 use Rattle.game_canon.specs.declared.side.Side.{Side}

@@ -100,8 +100,11 @@ best-start s Ts free bs e ids apart = subst (λ z. AreBest s Ts z bs) (sym (appe
   smaller = omega arith;
 })
 
+pub best-none : (s : Side) (Ts : List Tree) (bs : List ℕ) → bs ≡ [] → AreBest s Ts bs bs
+best-none s Ts bs e = subst (λ z. AreBest s Ts z bs) (sym e) (best-start s Ts [] bs e (λ j l. absurd (omega (arith, l))) (λ A B h k. absurd h))
+
 -- a list without one of its ids, and others behind it
-take-front : (xs ys : List ℕ) → take (length xs) (xs ++ ys) ≡ xs
+pub take-front : (xs ys : List ℕ) → take (length xs) (xs ++ ys) ≡ xs
 take-front [] ys = refl
 take-front (x ∷ xs) ys = ap (λ z. x ∷ z) (take-front xs ys)
 
@@ -186,16 +189,7 @@ NearUncovered s Ts is X = (j : ℕ) → j < length is → Covers s X (tree_at Ts
 abbrev pub FarUncovered : Side → List Tree → List ℕ → Tree → Type 0
 FarUncovered s Ts is X = (j : ℕ) → j < length is → Covers s (tree_at Ts (get_or is j 0)) X → ⊥
 
--- the best of ids in order, and the best in order
-pub best-of_ordered : (s : Side) (Ts : List Tree) (is ds vs : List ℕ) → IsInOrder is ds → AreBest s Ts ds vs → AreBest s Ts is vs
-best-of_ordered s Ts is ds vs o b = record {
-  ids = b.ids;
-  among = λ X h. out-order Ts is ds o X (b.among X h);
-  covers = λ X h. b.covers X (in-order Ts is ds o X h);
-  free = b.free;
-  smaller = omega (arith, sizes-order Ts is ds o, b.smaller);
-}
-
+-- the best in order
 pub best-ordered : (s : Side) (Ts : List Tree) (is us vs : List ℕ) → AreBest s Ts is us → IsInOrder us vs → AreBest s Ts is vs
 best-ordered s Ts is us vs b o = record {
   ids = ordered-ids Ts us vs o b.ids;

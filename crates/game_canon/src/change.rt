@@ -1,20 +1,18 @@
 //! Changes of a form that change each of its options alike: to its negative, or to its sum with a number.
 
-ghost use Rattle.std.specs.Prelude.{◌≡◌, ◌<◌, ℕ, nat_eq, cond, Some, length, slice_index, IfOk, IfErr, OnOk, MatchOption};
-ghost use Rattle.indexmap.specs.IndexMap.{get};
+ghost use Rattle.std.specs.Prelude.{◌≡◌, ◌<◌, ◌++◌, ◌∷◌, ℕ, [], length, slice_index, IfOk, IfErr, OnOk, MatchOption};
 ghost use Rattle.short_games.specs.TextOrder.{IsCanonicalTree};
 ghost use Rattle.short_games.specs.Tree.{tree_at};
 ghost use Rattle.short_games.specs.Number.{number_tree};
-ghost use Rattle.game_store.specs.Meaning.{Extends};
+ghost use Rattle.game_store.specs.Meaning.{Extends, IsAscending};
 ghost use Rattle.game_canon.specs.Reachable.{AreReachable};
-ghost use Rattle.game_canon.specs.inner.Changes.{IsPastShift, shifted, left_list, right_list, IsChanged, AreNoted, AreKnown, IsMapped, AreClosed, AreDone, IsRefusedAt, IsRefused};
+ghost use Rattle.game_canon.specs.inner.Changes.{IsPastShift, noted, shifted, left_list, right_list, IsChanged, AreNoted, AreKnown, IsMapped, AreClosed, AreDone, IsRefusedAt, IsRefused};
 
 use crate::errors::FormError;
-use crate::ids::{Ids, in_order};
+use crate::ids::{Ids, arrange, is_at, place_of};
 use crate::reachable_forms::reachable;
 use dyadic_num::Dyadic;
 use game_store::{Form, GameId, Store};
-use indexmap::IndexMap;
 use std::alloc::{AllocError, Global};
 
 /// What a form is changed to: its negative, or its sum with a number.
@@ -24,8 +22,27 @@ pub(crate) enum Change {
     Add(Dyadic),
 }
 
-/// For ids, the ids of the changed forms.
-type Changed = IndexMap<GameId, GameId>;
+/// For ids in ascending order the ids of the changed forms, as far as forms are changed.
+#[derive(Clone, Copy)]
+struct Changed<'a> {
+    ids: &'a [GameId],
+    afters: &'a [GameId],
+}
+
+/// The id that stands for another after the change.
+fn after_of(changed: &Changed<'_>, id: GameId) -> Option<GameId>
+    requires { IsAscending changed.now.ids.now }
+    ensures { result ≡ noted changed.now.ids.now changed.now.afters.now id }
+{
+    let place = place_of(changed.ids, id);
+    if !is_at(changed.ids, place, id) {
+        return None;
+    }
+    if place >= changed.afters.len() {
+        return None;
+    }
+    Some(changed.afters[place])
+}
 
 /// The number after the change. None exactly where it is past the bounds.
 fn shift(change: Change, y: Dyadic) -> Option<Dyadic>
@@ -50,19 +67,22 @@ fn changed_number(store: &mut Store, change: Change, y: Dyadic) -> Result<GameId
 }
 
 /// The ids that stand for these, in ascending order.
-fn changed_list(alloc: Global, changed: &Changed, ids: &[GameId]) -> Result<Ids, AllocError>
-    requires { AreKnown (get nat_eq changed.now) ids.now }
-    ensures { IfOk result (λ v. IsMapped (get nat_eq changed.now) ids.now v.items) }
+fn changed_list(alloc: Global, changed: &Changed<'_>, ids: &[GameId]) -> Result<Ids, AllocError>
+    requires ascends { IsAscending changed.now.ids.now }
+    requires known { AreKnown (noted changed.now.ids.now changed.now.afters.now) ids.now }
+    ensures { IfOk result (λ v. IsMapped (noted changed.now.ids.now changed.now.afters.now)
+        ids.now v.items) }
 {
     let mut found = Ids::new(alloc);
     for id in ids {
-        match changed.get(id).copied() {
+        match after_of(changed, *id) {
             Some(after) => found.push(after)?,
             // Options are changed before the forms that they stand in.
             None => unreachable!(),
         }
     }
-    in_order(alloc, &found)
+    arrange(&mut found);
+    Ok(found)
 }
 
 /// The options of a changed form.
@@ -75,16 +95,17 @@ struct Lists {
 /// The options after the change: where the form is negated the sides change.
 fn changed_lists(
     alloc: Global,
-    changed: &Changed,
+    changed: &Changed<'_>,
     change: Change,
     left: &[GameId],
     right: &[GameId],
 ) -> Result<Lists, AllocError>
-    requires left { AreKnown (get nat_eq changed.now) left.now }
-    requires right { AreKnown (get nat_eq changed.now) right.now }
-    ensures left { IfOk result (λ v. IsMapped (get nat_eq changed.now)
+    requires ascends { IsAscending changed.now.ids.now }
+    requires left { AreKnown (noted changed.now.ids.now changed.now.afters.now) left.now }
+    requires right { AreKnown (noted changed.now.ids.now changed.now.afters.now) right.now }
+    ensures left { IfOk result (λ v. IsMapped (noted changed.now.ids.now changed.now.afters.now)
         (left_list change left.now right.now) v.left.items) }
-    ensures right { IfOk result (λ v. IsMapped (get nat_eq changed.now)
+    ensures right { IfOk result (λ v. IsMapped (noted changed.now.ids.now changed.now.afters.now)
         (right_list change left.now right.now) v.right.items) }
 {
     let left = changed_list(alloc, changed, left)?;
@@ -102,12 +123,13 @@ fn changed_lists(
 fn changed_form(
     alloc: Global,
     store: &mut Store,
-    changed: &Changed,
+    changed: &Changed<'_>,
     change: Change,
     id: GameId,
 ) -> Result<GameId, FormError>
     requires id { id < length store.old }
-    requires noted { AreNoted store.old (get nat_eq changed.now) change id }
+    requires ascends { IsAscending changed.now.ids.now }
+    requires noted { AreNoted store.old (noted changed.now.ids.now changed.now.afters.now) change id }
     ensures value { IfOk result (λ k. IsChanged store.new change (tree_at store.old id) k) }
     ensures refusal { IfErr result (λ error. IsRefusedAt change (tree_at store.old id) error) }
     ensures kept { Extends store.old store.new }
@@ -124,42 +146,41 @@ fn changed_form(
     }
 }
 
-/// Notes the id that stands for another.
-fn note(changed: &mut Changed, id: GameId, after: GameId) -> Result<(), AllocError>
-    ensures { OnOk result ((i : ℕ) → get nat_eq changed.new i ≡ cond (nat_eq id i) (Some after)
-        (get nat_eq changed.old i)) }
+/// Notes the id of the next changed form.
+fn note(afters: &mut Ids, after: GameId) -> Result<(), AllocError>
+    ensures { OnOk result (afters.new.items ≡ afters.old.items ++ after ∷ []) }
 {
-    changed.insert(id, after)?;
+    afters.push(after)?;
     Ok(())
 }
 
-/// Changes the forms, of which options come before what they are options of.
+/// Changes the forms, of which options come before what they are options of, and lists the ids that stand for theirs.
 fn change_all(
     alloc: Global,
     store: &mut Store,
-    changed: &mut Changed,
+    afters: &mut Ids,
     change: &Change,
     ids: &[GameId],
 ) -> Result<(), FormError>
+    requires empty { afters.old.items ≡ [] }
     requires closed { AreClosed store.old ids.now }
     ensures done { OnOk result (AreDone store.old store.new change.now
-        (get nat_eq changed.new) ids.now (length ids.now)) }
+        (noted ids.now afters.new.items) ids.now (length ids.now)) }
     ensures refusal { IfErr result (λ error. (j : ℕ) × (j < length ids.now)
         × IsRefusedAt change.now (tree_at store.old (slice_index ids.now j)) error) }
     ensures kept { Extends store.old store.new }
 {
     for id in ids {
-        let after = changed_form(alloc, store, changed, *change, *id)?;
-        note(changed, *id, after)?;
+        let after = changed_form(alloc, store, &Changed { ids, afters }, *change, *id)?;
+        note(afters, after)?;
     }
     Ok(())
 }
 
-/// The canonical form of a form after the change, where no form is changed yet that it is made of, which these ids name.
+/// The canonical form of a form after the change, where these ids name all that it is made of.
 fn change_reached(
     alloc: Global,
     store: &mut Store,
-    changed: &mut Changed,
     change: &Change,
     a: GameId,
     ids: &[GameId],
@@ -171,8 +192,13 @@ fn change_reached(
     ensures kept { Extends store.old store.new }
 {
     let _count = store.len();
-    change_all(alloc, store, changed, change, ids)?;
-    match changed.get(&a).copied() {
+    let mut afters = Ids::new(alloc);
+    change_all(alloc, store, &mut afters, change, ids)?;
+    let changed = Changed {
+        ids,
+        afters: &afters,
+    };
+    match after_of(&changed, a) {
         Some(after) => Ok(after),
         // The game itself is the last of its followers.
         None => unreachable!(),
@@ -194,6 +220,5 @@ pub(crate) fn change_form(
 {
     let _count = store.len();
     let ids = reachable(alloc, store, a)?;
-    let mut changed = Changed::new(alloc);
-    change_reached(alloc, store, &mut changed, &change, a, &ids)
+    change_reached(alloc, store, &change, a, &ids)
 }

@@ -9,7 +9,7 @@ ghost use Rattle.game_canon.specs.inner.Sides.{Covers, AreBest, AreFree, IsWitho
 
 use crate::comparisons::Comparisons;
 use crate::games::Games;
-use crate::ids::{Ids, in_order, put};
+use crate::ids::{Ids, arrange, put};
 use crate::side::{Side, is_covered};
 use game_store::GameId;
 use std::alloc::{AllocError, Global};
@@ -134,7 +134,8 @@ pub(crate) fn best_in_order(
 {
     let mut best = Ids::from_slice(alloc, free)?;
     take_in_all(alloc, memo, games, side, &mut best, ids)?;
-    in_order(alloc, &best)
+    arrange(&mut best);
+    Ok(best)
 }
 
 /// The best of the games for the side, in ascending order of their ids.
@@ -151,6 +152,8 @@ pub(crate) fn best(
     ensures ascends { IfOk result (λ v. IsAscending v.items) }
     ensures known { IsKnown games.now (recalled memo.new) }
 {
-    let different = in_order(alloc, ids)?;
-    best_in_order(alloc, memo, games, side, &[], &different)
+    let mut best = Ids::new(alloc);
+    take_in_all(alloc, memo, games, side, &mut best, ids)?;
+    arrange(&mut best);
+    Ok(best)
 }

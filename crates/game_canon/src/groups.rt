@@ -11,7 +11,7 @@ ghost use Rattle.game_canon.specs.inner.Sides.{AreBest, AreFree, IsUncovered};
 use crate::comparisons::Comparisons;
 use crate::domination::none_covers;
 use crate::games::Games;
-use crate::ids::{Ids, in_order};
+use crate::ids::{Ids, arrange};
 use crate::side::Side;
 use game_store::GameId;
 use std::alloc::{AllocError, Global};
@@ -90,6 +90,7 @@ pub(crate) fn best_by_groups(
     ensures known { IsKnown games.now (recalled memo.new) }
 {
     let (first, second) = ids.split_at(cut);
-    let best = best_of_groups(alloc, memo, games, side, first, second)?;
-    in_order(alloc, &best)
+    let mut best = best_of_groups(alloc, memo, games, side, first, second)?;
+    arrange(&mut best);
+    Ok(best)
 }

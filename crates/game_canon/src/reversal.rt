@@ -12,7 +12,7 @@ ghost use Rattle.game_canon.specs.inner.Sides.{Covers, AreFree, IsRefilled, IsRe
 use crate::comparisons::Comparisons;
 use crate::domination::best_in_order;
 use crate::games::Games;
-use crate::ids::{Ids, put};
+use crate::ids::{Ids, is_at, put};
 use crate::side::{Side, far_of, form_covers, near_of};
 use game_store::{Form, GameId, Store};
 use std::alloc::{AllocError, Global};
@@ -35,13 +35,6 @@ fn place_from(ids: &[GameId], start: usize, id: GameId) -> usize {
         place += 1;
     }
     place
-}
-
-/// Whether an id stands at the place.
-fn is_at(ids: &[GameId], place: usize, id: GameId) -> bool
-    ensures { IsTrue result → (place < length ids.now) × (slice_index ids.now place ≡ id) }
-{
-    place < ids.len() && ids[place] == id
 }
 
 /// The first of the games that the form beside the store covers.

@@ -1,5 +1,5 @@
 -- What changing a game, follower by follower, has made so far: its negative, or its sum with a number.
-use Rattle.std.specs.Prelude.{ℕ, ◌≡◌, ◌<◌, List, length, ℤ, ◌+ℤ◌, neg_ℤ, Option, Some}
+use Rattle.std.specs.Prelude.{ℕ, ◌≡◌, ◌<◌, List, [], ◌∷◌, length, ℤ, ◌+ℤ◌, neg_ℤ, Option, Some, None, cond, nat_eq}
 use Rattle.std.specs.List.{slice_index_or}
 use Rattle.dyadic_num.specs.Units.{IsInBounds}
 use Rattle.short_games.specs.Tree.{Tree, Trees, left, right, neg, tree_at}
@@ -52,6 +52,12 @@ IsPastShift (Add x) y = IsInBounds (y +ℤ x) → ⊥
 -- the id of the canonical tree of what a change makes of G
 abbrev pub IsChanged : List Tree → Change → Tree → ℕ → Type 0
 IsChanged Ts c G id = IsCanonicalId Ts (target c G) id
+
+-- for the ids of the first list, those at their places in the second are noted
+abbrev pub noted : List ℕ → List ℕ → ℕ → Option ℕ
+noted [] ks i = None
+noted (j ∷ is) [] i = None
+noted (j ∷ is) (k ∷ ks) i = cond (nat_eq j i) (Some k) (noted is ks i)
 
 -- for each of the ids another is noted
 abbrev pub AreKnown : (ℕ → Option ℕ) → List ℕ → Type 0

@@ -1,5 +1,4 @@
 use Rattle.std.proofs.Common.{List, ℕ, ◌++◌, ◌∙◌, sym, subst, append-nil}
-use Rattle.std.proofs.lemmas.Result.{IfOk-weaker}
 use Rattle.game_canon.specs.inner.Sides.{AreBest}
 use Rattle.game_canon.proofs.SideLaws.{best-start, best-ordered}
 use Rattle.game_canon.proofs.domination.best_in_order.Goals as goal
@@ -10,9 +9,8 @@ take_in_all-requires-clause-best c = subst (λ (z : List ℕ). AreBest c.args.si
     (best-start c.args.side c.args.games.now.store.now c.args.free.now _ c.in_ok-best.ensures.ok c.requires.free_ids c.requires.free)
 
 pub returns-clause-best : goal.returns-clause-best
-returns-clause-best c = IfOk-weaker c.in_order.result _ _ (λ _. best-ordered c.args.side c.args.games.now.store.now (c.args.free.now ++ c.args.ids.now) _ _
-    (subst (λ (z : List ℕ). AreBest c.args.side c.args.games.now.store.now (z ++ c.args.ids.now) c.take_in_all.new.best.items) c.in_ok-best.ensures.ok c.in_ok-take_in_all.ensures.best))
-    (rw c.deref.ensures at c.in_order.ensures)
+returns-clause-best c = best-ordered c.args.side c.args.games.now.store.now (c.args.free.now ++ c.args.ids.now) _ _
+    (subst (λ (z : List ℕ). AreBest c.args.side c.args.games.now.store.now (z ++ c.args.ids.now) c.take_in_all.new.best.items) c.in_ok-best.ensures.ok c.in_ok-take_in_all.ensures.best) c.arrange.ensures
 
 pub returns-clause-ascends : goal.returns-clause-ascends
-returns-clause-ascends c = IfOk-weaker c.in_order.result _ _ (λ _ o. o.ascends) c.in_order.ensures
+returns-clause-ascends c = c.arrange.ensures.ascends
