@@ -1,12 +1,12 @@
 -- The options of a sum come in two groups, by the game that was moved in.
-use Rattle.std.proofs.Common.{ℕ, ◌≡◌, ◌<◌, ◌≤◌, ◌+◌, ◌++◌, ◌∷◌, [], List, length, inl, inr, arith, ap, refl, sym, subst, ◌∙◌, take, drop, Some}
+use Rattle.std.proofs.Common.{ℕ, ◌≡◌, ◌<◌, ◌++◌, ◌∷◌, [], List, length, inl, inr, arith, ap, refl, sym, subst, ◌∙◌, take, drop, Some}
 use Rattle.std.specs.Prelude.{Option}
 use Rattle.std.proofs.lemmas.List.{append-nil, length-append}
 use Rattle.short_games.specs.Canonical.{IsReduced}
 use Rattle.short_games.specs.Order.{◌≤ᵍ◌}
 use Rattle.short_games.specs.Sum.{◌+ᵍ◌}
 use Rattle.short_games.specs.TextOrder.{IsCanonicalFor, IsCanonicalTree, TextBefore}
-use Rattle.short_games.specs.Tree.{Has, Tree, left, node, right, tree_at}
+use Rattle.short_games.specs.Tree.{Has, Tree, node, right, tree_at}
 use Rattle.short_games.proofs.OrderLaws.{le-trans}
 use Rattle.short_games.proofs.ReductionLaws.{same-canonical}
 use Rattle.short_games.proofs.SumLaws.{plus-cancel, plus-comm}
@@ -14,6 +14,7 @@ use Rattle.game_store.specs.Forms.{IsOptions}
 use Rattle.game_store.specs.Meaning.{AreCanonical, pick}
 use Rattle.game_canon.specs.Groups.{AreGroups, AreUnordered}
 use Rattle.game_canon.proofs.GameLaws.{left-has, right-has}
+use Rattle.game_canon.proofs.SideLaws.{take-front}
 use Rattle.game_calc.specs.inner.Table.{AddsMoves, AreNoted, AreNotedSumsRight}
 
 -- where sums with one game are noted, those of unordered games are unordered
@@ -42,10 +43,6 @@ left-unordered Ts a is js o c = λ A B h k. (reduced (tree_at Ts a) c).left_free
 
 right-unordered : (Ts : List Tree) (a : ℕ) (is js : List ℕ) → IsOptions Ts a is js → IsCanonicalTree (tree_at Ts a) → AreUnordered (pick Ts js)
 right-unordered Ts a is js o c = λ A B h k. (reduced (tree_at Ts a) c).right_free A B (right-has Ts a is js o A h) (right-has Ts a is js o B k)
-
-take-front : (xs ys : List ℕ) → take (length xs) (xs ++ ys) ≡ xs
-take-front [] ys = refl
-take-front (x ∷ xs) ys = ap (λ z. x ∷ z) (take-front xs ys)
 
 drop-front : (xs ys : List ℕ) → drop (length xs) (xs ++ ys) ≡ ys
 drop-front [] ys = refl
