@@ -5,6 +5,7 @@ pub mod OrderLemmas
 pub mod RangeLemmas
 pub mod AnswerLemmas
 pub mod AskingLemmas
+pub mod StepLemmas
 pub mod StandingLemmas
 pub mod HandicapLemmas
 pub mod GeneratingLemmas

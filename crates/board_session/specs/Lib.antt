@@ -11,6 +11,7 @@ pub mod Handicaps
 pub mod Orders
 pub mod Session
 pub mod Asking
+pub mod Steps
 pub mod Written
 pub mod Kept
 pub mod Laws

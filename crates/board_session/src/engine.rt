@@ -1,17 +1,14 @@
 //! The engine: a session, and the loads of files that its lines ask for.
 
-ghost use Rattle.std.specs.Prelude.{◌≡◌, ◌≤◌, ◌<◌, ◌+◌, List, length, IfOk, OnErr};
+ghost use Rattle.std.specs.Prelude.{◌≡◌, ◌≤◌, ◌<◌, ◌⊎◌, ◌+◌, length, IfOk, OnErr};
 ghost use Rattle.desk_io.specs.declared.lines.TheConstants.{MOST_LINES};
-ghost use Rattle.go_grid.specs.Region.{Region};
 ghost use Rattle.gtp_words.specs.Asking.{AsksBy};
 ghost use Rattle.gtp_words.specs.declared.loading.Loading.TheVariants.{Position};
-ghost use Rattle.region_cut.specs.Cut.{AreRegionsOfPlay};
-ghost use Rattle.endgame_solver.specs.Faults.{most_steps};
 ghost use Rattle.board_session.specs.Asking.{AskedNames, LineNames, OrderNames};
 ghost use Rattle.board_session.specs.Orders.Asked.{something};
 ghost use Rattle.board_session.specs.Orders.BoardOrder.{loadsgf};
-ghost use Rattle.board_session.specs.Session.{game_limits, is_last};
-ghost use Rattle.board_session.specs.States.{present};
+ghost use Rattle.board_session.specs.Session.{is_last};
+ghost use Rattle.board_session.specs.Steps.{AreLineSteps, AskToSolve, OrderSolves, SolvesWithin};
 ghost use Rattle.board_session.specs.Written.{IsBoardReply, unused};
 ghost use Rattle.board_session.specs.inner.Doing.{AsksInRange, CanTakeUp, HasKomiInRange};
 ghost use Rattle.board_session.specs.inner.Obeying.{IsLoadNoted, IsMet, IsObeyed};
@@ -71,13 +68,6 @@ impl BoardEngine {
             session: BoardSession::new(alloc)?,
             loads: Loads::new(alloc),
         })
-    }
-
-    /// The loads so far.
-    pub fn loads(&self) -> &Loads
-        ensures { result.now ≡ self.now.loads }
-    {
-        &self.loads
     }
 
     /// Takes up the position of a file, or leaves all as it was where memory is refused.
@@ -172,9 +162,8 @@ impl BoardEngine {
         ensures same { OnErr result (self.new ≡ self.old) }
         ensures same_files { H.files shelf.new ≡ H.files shelf.old }
         ensures later { H.faults shelf.old ≤ H.faults shelf.new }
-        ensures steps { (regions : List Region)
-            → AreRegionsOfPlay (present self.old.state).board regions
-            → steps.new ≤ steps.old + most_steps (game_limits self.old.limits) regions }
+        ensures steps { (steps.new ≡ steps.old) ⊎ (OrderSolves (order_of request.entry)
+            × SolvesWithin self.old.limits self.old.state steps.old steps.new) }
     {
         match request {
             Request::LoadSgf(file, after) => self.load_file(id, file, after, shelf),
@@ -216,9 +205,8 @@ impl BoardEngine {
         ensures same { OnErr result (self.new ≡ self.old) }
         ensures same_files { H.files shelf.new ≡ H.files shelf.old }
         ensures later { H.faults shelf.old ≤ H.faults shelf.new }
-        ensures steps { (regions : List Region)
-            → AreRegionsOfPlay (present self.old.state).board regions
-            → steps.new ≤ steps.old + most_steps (game_limits self.old.limits) regions }
+        ensures steps { (steps.new ≡ steps.old) ⊎ (AskToSolve (asked_of asked.entry)
+            × SolvesWithin self.old.limits self.old.state steps.old steps.new) }
     {
         let alloc = self.session.allocator();
         match asked {
@@ -255,9 +243,8 @@ impl BoardEngine {
         ensures same { OnErr result (self.new ≡ self.old) }
         ensures same_files { H.files shelf.new ≡ H.files shelf.old }
         ensures later_loads { H.faults shelf.old ≤ H.faults shelf.new }
-        ensures steps { (regions : List Region)
-            → AreRegionsOfPlay (present self.old.state).board regions
-            → steps.new ≤ steps.old + most_steps (game_limits self.old.limits) regions }
+        ensures steps { AreLineSteps self.old.limits self.old.state line.now
+            steps.old steps.new }
     {
         let alloc = self.session.allocator();
         let text = clean(alloc, line)?;

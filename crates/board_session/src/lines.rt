@@ -5,11 +5,13 @@ ghost use Rattle.desk_io.specs.Lines.{UsesLines};
 ghost use Rattle.desk_io.specs.Outside.{Rose};
 ghost use Rattle.gtp_words.specs.declared.end.GtpEnd.TheVariants.{ReadFault, WriteFault};
 ghost use Rattle.gtp_words.specs.Asking.{AsksInSession};
-ghost use Rattle.gtp_words.specs.Loads.{RoseBy};
+ghost use Rattle.gtp_words.specs.Loads.{AreLoads, RoseBy};
 ghost use Rattle.gtp_words.specs.Sessions.{WritesByEnd};
+ghost use Rattle.gtp_words.specs.Steps.{StepsByEnd, StepsOfLines, counted};
 ghost use Rattle.board_session.specs.Asking.{LineNames};
 ghost use Rattle.board_session.specs.Session.{AnswersLine, first_state};
 ghost use Rattle.board_session.specs.States.{BoardState};
+ghost use Rattle.board_session.specs.Steps.{AreLineSteps};
 ghost use Rattle.board_session.specs.Written.{unused};
 
 use crate::engine::BoardEngine;
@@ -24,6 +26,7 @@ impl AnswersLines for BoardEngine {
     ghost use Rattle.board_session.specs.Asking.{LineNames};
     ghost use Rattle.board_session.specs.Session.{AnswersLine};
     ghost use Rattle.board_session.specs.States.{BoardState};
+    ghost use Rattle.board_session.specs.Steps.{AreLineSteps};
     ghost use Rattle.board_session.specs.Written.{CanAnswer, loaded};
 
     ghost State = { BoardState };
@@ -37,6 +40,8 @@ impl AnswersLines for BoardEngine {
     ghost replies = { AnswersLine };
 
     ghost names = { LineNames };
+
+    ghost line_steps = { AreLineSteps };
 
     ghost has_room = { CanAnswer };
 
@@ -66,6 +71,15 @@ impl BoardEngine {
             self.new.state (S.left lines.new) result }
         ensures asked { (bytes : List ℕ) → S.left lines.old ≡ Some bytes → AsksInSession H.asks
             LineNames bytes shelf.old (S.left lines.new) shelf.new result }
+        ensures steps { (bytes : List ℕ) → S.left lines.old ≡ Some bytes
+            → StepsByEnd BoardState (AreLineSteps self.old.limits)
+            (AnswersLine self.old.limits (H.files shelf.old)) self.new.loads.failures
+            (counted first_state steps.old) bytes (K.holds out.old) (K.holds out.new)
+            (counted self.new.state steps.new) (S.left lines.new) result }
+        ensures lines { StepsOfLines (AreLineSteps self.old.limits)
+            (AnswersLine self.old.limits (H.files shelf.old)) MOST_LINES
+            (counted first_state steps.old) (counted self.new.state steps.new) }
+        ensures loads { AreLoads self.new.loads }
         ensures counted { RoseBy (length self.new.loads.failures) (H.faults shelf.old)
             (H.faults shelf.new) }
         ensures read_fault { result ≡ ReadFault → Rose (S.faults lines.old) (S.faults lines.new) }

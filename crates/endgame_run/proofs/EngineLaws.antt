@@ -3,8 +3,9 @@ use Rattle.std.proofs.Common.{append_assoc, length, length-append, ◌≡◌, �
 use Rattle.std.specs.Prelude.{Option, take, codes}
 use Rattle.std.specs.Io.KnownBytes.{append_known}
 use Rattle.std.proofs.lemmas.List.{append-nil}
-use Rattle.desk_io.specs.Desk.{Known}
+use Rattle.desk_io.specs.Desk.{Input, Known}
 use Rattle.desk_io.specs.Files.{Files}
+use Rattle.desk_io.specs.declared.lines.TheConstants.{MOST_LINES}
 use Rattle.desk_io.specs.Lines.{UsesLines}
 use Rattle.desk_io.specs.Outside.{Rose}
 use Rattle.gtp_words.specs.declared.end.GtpEnd.{GtpEnd}
@@ -12,10 +13,11 @@ use Rattle.gtp_words.specs.declared.end.GtpEnd.TheVariants as end
 use Rattle.gtp_words.specs.Asking.{Asking, AsksInSession}
 use Rattle.gtp_words.specs.Loads.{AreLoads, Loads, RoseBy}
 use Rattle.gtp_words.specs.Sessions.{WritesByEnd, beginning}
+use Rattle.gtp_words.specs.Steps.{StepsByEnd, StepsOfLines, counted}
 use Rattle.endgame_run.specs.declared.status.Status.{Status}
 use Rattle.endgame_run.specs.declared.status.Status.TheVariants.{CannotRead, CannotWrite, Done, Memory, TooManyLines}
 use Rattle.endgame_run.specs.declared.status.Status.TheVariants as status
-use Rattle.endgame_run.specs.Engine.{AreFailedLoads, AsksForLines, IsEnginePlay, IsEngineStatus, IsEngineStopped, IsEngineWritten, SessionRules}
+use Rattle.endgame_run.specs.Engine.{AreFailedLoads, AreSessionSteps, AsksForLines, IsEnginePlay, IsEngineStatus, IsEngineStopped, IsEngineWritten, SessionRules}
 use Rattle.endgame_run.specs.File.{TakesAtMost, most_of_engine}
 use Rattle.endgame_run.specs.Written.{Finishes}
 use Rattle.endgame_run.specs.inner.Top.{IsClosed}
@@ -125,6 +127,40 @@ pub engine_ran : (r : SessionRules) (a b : Known) (loads : Loads) (middle : ℕ)
     → IsClosed final middle b.writes mid b.holds status → IsEnginePlay r a status b
 engine_ran r a b loads middle mid status state final numbered counted p rose writes later up c =
     engine_play r a b loads.failures (record { ascending = numbered.ascending; counted = counted }) middle mid status state final p rose writes later up c
+
+-- the steps of a session, by those of the engine's own
+pub session_steps : (r : SessionRules) (i j : Input) (loads : Loads) (state : r.State) (final : GtpEnd) (holds held : Option (List ℕ)) (before now : ℕ) → AreLoads loads
+    → RoseBy (length loads.failures) i.loads j.loads → StepsOfLines r.Steps (r.Reply i.files) MOST_LINES (counted r.start before) (counted state now)
+    → ((bytes : List ℕ) → i.left ≡ Some bytes → StepsByEnd r.State r.Steps (r.Reply i.files) loads.failures (counted r.start before) bytes holds held (counted state now) j.left final)
+    → AreSessionSteps r i j before now
+session_steps r i j loads state final holds held before now numbered rose lines steps = record {
+  lines = (state, lines);
+  told = told_written _ i.left (λ bytes is. (loads.failures, record { ascending = numbered.ascending; counted = rose }, (state, final, holds, held, steps bytes is)));
+}
+
+-- no session was begun
+pub no_session_steps : (r : SessionRules) (i : Input) (steps : ℕ) → AreSessionSteps r i i steps steps
+no_session_steps r i steps = record {
+  lines = (r.start, (0, omega arith, counted r.start steps, refl, refl, inl refl));
+  told = told_written _ i.left (λ bytes is. (
+    [],
+    no_loads i.loads,
+    (
+      r.start,
+      end.Memory,
+      None,
+      None,
+      (
+        beginning (counted r.start steps) bytes,
+        [],
+        record { held = []; rest = bytes; same = refl; unread = refl; few = omega arith; source = is },
+        (0, (refl, refl), omega arith),
+        refl,
+        inl refl,
+      ),
+    ),
+  ));
+}
 
 -- what a session took of its source
 pub session_taken : (before now : Option (List ℕ)) → (held : List ℕ) × (length held ≤ 1024) × UsesLines 1024 0 10000 [] before held now → TakesAtMost most_of_engine before now

@@ -14,7 +14,7 @@ use Rattle.endgame_solver.specs.declared.limits.Limits.{Limits}
 use Rattle.gtp_engine.specs.declared.limits.EngineLimits.{EngineLimits}
 use Rattle.board_session.specs.declared.limits.BoardLimits.{BoardLimits}
 use Rattle.endgame_run.specs.Calc.{RunsCalc}
-use Rattle.endgame_run.specs.Engine.{RunsEngine, board_rules, engine_rules}
+use Rattle.endgame_run.specs.Engine.{AreSessionSteps, RunsEngine, board_rules, engine_rules}
 use Rattle.endgame_run.specs.File.{dash, told_of}
 use Rattle.endgame_run.specs.Game.{PlaysFile, question_of_game}
 use Rattle.endgame_run.specs.Limits.{board_limits, engine_limits, limits_of}
@@ -77,19 +77,29 @@ module _ {H S K : Type 0} (o : Outside H S K) (job : Job) (a : Desk H S K) (stat
       (subst (λ k. RunsEngine o (cond k (board_rules (board_limits job)) (engine_rules (engine_limits job))) a status b) (sym own)
       (subst (λ l. RunsEngine o (board_rules l) a status b) same h))
 
-module _ (job : Job) (i : Input) (before now : ℕ) where
-  pub task_steps : (task : Task) → job.task ≡ task → AreTaskSteps task job i before now → AreTaskSteps job.task job i before now
-  task_steps task is h = subst (λ t. AreTaskSteps t job i before now) (sym is) h
+module _ (job : Job) (i j : Input) (before now : ℕ) where
+  pub task_steps : (task : Task) → job.task ≡ task → AreTaskSteps task job i j before now → AreTaskSteps job.task job i j before now
+  task_steps task is h = subst (λ t. AreTaskSteps t job i j before now) (sym is) h
 
   pub question_steps : (q : Question) (limits : Limits) (word : List ℕ) → job.task ≡ ask q word → limits ≡ limits_of job → AreToldSteps q limits (told_of i word) job.settings before now
-      → AreTaskSteps job.task job i before now
+      → AreTaskSteps job.task job i j before now
   question_steps q limits word is same h = task_steps (ask q word) is (subst (λ l. AreToldSteps q l (told_of i word) job.settings before now) same h)
 
   pub game_steps : (cycles : Bool) (limits : Limits) (word : List ℕ) → job.task ≡ play word → limits ≡ limits_of job → cycles ≡ job.cycles
-      → AreToldSteps (question_of_game cycles) limits (told_of i word) job.settings before now → AreTaskSteps job.task job i before now
+      → AreToldSteps (question_of_game cycles) limits (told_of i word) job.settings before now → AreTaskSteps job.task job i j before now
   game_steps cycles limits word is same kos h =
       task_steps (play word) is (subst (λ l. AreToldSteps (question_of_game job.cycles) l (told_of i word) job.settings before now) same
       (subst (λ k. AreToldSteps (question_of_game k) limits (told_of i word) job.settings before now) kos h))
+
+  pub engine_steps : (limits : EngineLimits) → job.task ≡ gtp → job.keep_board ≡ false → limits ≡ engine_limits job → AreSessionSteps (engine_rules limits) i j before now → AreTaskSteps job.task job i j before now
+  engine_steps limits is own same h = task_steps gtp is
+      (subst (λ k. AreSessionSteps (cond k (board_rules (board_limits job)) (engine_rules (engine_limits job))) i j before now) (sym own)
+      (subst (λ l. AreSessionSteps (engine_rules l) i j before now) same h))
+
+  pub board_steps : (limits : BoardLimits) → job.task ≡ gtp → job.keep_board ≡ true → limits ≡ board_limits job → AreSessionSteps (board_rules limits) i j before now → AreTaskSteps job.task job i j before now
+  board_steps limits is own same h = task_steps gtp is
+      (subst (λ k. AreSessionSteps (cond k (board_rules (board_limits job)) (engine_rules (engine_limits job))) i j before now) (sym own)
+      (subst (λ l. AreSessionSteps (board_rules l) i j before now) same h))
 
 -- the text as it was lent
 pub finishes_as : (s : Status) (t text : List ℕ) (w x : ℕ) (before now : Option (List ℕ)) (status : Status) → t ≡ text → Finishes s t w x before now status → Finishes s text w x before now status

@@ -2,8 +2,9 @@
 use Rattle.std.specs.Prelude.{◌≡◌, ◌⊎◌, ◌++◌, ℕ, List, length, codes, take, Option, Some, IfSome, cond}
 use Rattle.std.specs.List.Sorted.{IsStrictlyIncreasing}
 use Rattle.std.specs.Io.KnownBytes.{append_known}
-use Rattle.desk_io.specs.Desk.{Desk, Known, Outside, known}
+use Rattle.desk_io.specs.Desk.{Desk, Input, Known, Outside, known}
 use Rattle.desk_io.specs.Files.{Files}
+use Rattle.desk_io.specs.declared.lines.TheConstants.{MOST_LINES}
 use Rattle.desk_io.specs.Outside.{Rose}
 use Rattle.gd_words.specs.Job.{Job}
 use Rattle.gtp_engine.specs.declared.limits.EngineLimits.{EngineLimits}
@@ -13,30 +14,47 @@ use Rattle.gtp_words.specs.declared.end.GtpEnd.TheVariants as end
 use Rattle.gtp_words.specs.Asking.{Asking, AsksInSession, Naming}
 use Rattle.gtp_words.specs.Loads.{RoseBy}
 use Rattle.gtp_words.specs.Sessions.{Answers, BreaksOff, IsSession, Standing, StandsAt, Waits, beginning}
+use Rattle.gtp_words.specs.Steps.{LineSteps, StepsByEnd, StepsOfLines, counted}
 use Rattle.gtp_engine.specs.Asking as engine_file
 use Rattle.gtp_engine.specs.Session as engine
+use Rattle.gtp_engine.specs.Steps as engine_steps
 use Rattle.board_session.specs.Asking as board_file
 use Rattle.board_session.specs.Session as board
+use Rattle.board_session.specs.Steps as board_steps
 use Rattle.board_session.specs.States.{BoardState}
 use Rattle.endgame_run.specs.File.{TakesAtMost, most_of_engine}
 use Rattle.endgame_run.specs.Limits.{board_limits, engine_limits}
 use Rattle.endgame_run.specs.declared.status.Status.{Status}
 use Rattle.endgame_run.specs.declared.status.Status.TheVariants.{Done, CannotRead, CannotWrite, Memory, TooManyLines}
 
--- a kind of session: its states, what is replied to a line where the shelf holds these files, for which file a line asks, and where it begins
+-- a kind of session: its states, what is replied to a line where the shelf holds these files, for which file a line asks, which steps it takes,
+-- and where the session begins
 pub record SessionRules : Type 1 where
   pub State : Type 0
   pub Reply : Option Files → Answers State
   pub Names : Naming
+  pub Steps : LineSteps State
   pub start : State
 
 -- the session of the engine within limits
 abbrev pub engine_rules : EngineLimits → SessionRules
-engine_rules limits = record { State = engine.Table; Reply = engine.AnswersLine limits; Names = engine_file.LineNames; start = engine.first_table }
+engine_rules limits = record {
+  State = engine.Table;
+  Reply = engine.AnswersLine limits;
+  Names = engine_file.LineNames;
+  Steps = engine_steps.AreLineSteps limits;
+  start = engine.first_table;
+}
 
 -- the session of an engine that keeps a board, within limits
 abbrev pub board_rules : BoardLimits → SessionRules
-board_rules limits = record { State = BoardState; Reply = board.AnswersLine limits; Names = board_file.LineNames; start = board.first_state }
+board_rules limits = record {
+  State = BoardState;
+  Reply = board.AnswersLine limits;
+  Names = board_file.LineNames;
+  Steps = board_steps.AreLineSteps limits;
+  start = board.first_state;
+}
 
 -- the session of a job
 abbrev pub session_rules : Job → SessionRules
@@ -115,6 +133,13 @@ pub record IsEnginePlay (r : SessionRules) (a : Known) (status : Status) (b : Kn
 abbrev pub AsksForLines : {H : Type 0} → Asking H → SessionRules → H → Option (List ℕ) → Status → H → Option (List ℕ) → Type 0
 AsksForLines asks r s before status t left = (bytes : List ℕ) → before ≡ Some bytes
     → (final : GtpEnd) × AsksInSession asks r.Names bytes s left t final × (final ≡ end.Memory → status ≡ Memory)
+
+-- The steps of a session of the kind: those of each line that it answers, in the state in which it answers it, for some loads that failed. Where
+-- memory is refused those of the next line may come to them. Where the source tells its bytes the lines are theirs.
+pub record AreSessionSteps (r : SessionRules) (i j : Input) (before now : ℕ) : Type 0 where
+  pub lines : (state : r.State) × StepsOfLines r.Steps (r.Reply i.files) MOST_LINES (counted r.start before) (counted state now)
+  pub told : IfSome i.left (λ bytes. (failing : List ℕ) × AreFailedLoads i.loads j.loads failing × ((state : r.State) × (final : GtpEnd) × (holds held : Option (List ℕ))
+      × StepsByEnd r.State r.Steps (r.Reply i.files) failing (counted r.start before) bytes holds held (counted state now) j.left final))
 
 -- what a session of the kind comes to
 pub record RunsEngine {H S K : Type 0} (o : Outside H S K) (r : SessionRules) (a : Desk H S K) (status : Status) (b : Desk H S K) : Type 0 where

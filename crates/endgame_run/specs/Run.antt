@@ -5,7 +5,7 @@ use Rattle.gd_words.specs.Job.{IsOnlyJob, Job, SayNoJob}
 use Rattle.gd_words.specs.Task.{Task}
 use Rattle.gd_words.specs.Task.Task.{ask, calc, gtp, play, trial}
 use Rattle.endgame_run.specs.Calc.{RunsCalc}
-use Rattle.endgame_run.specs.Engine.{RunsEngine, session_rules}
+use Rattle.endgame_run.specs.Engine.{AreSessionSteps, RunsEngine, session_rules}
 use Rattle.endgame_run.specs.File.{told_of}
 use Rattle.endgame_run.specs.Game.{PlaysFile, question_of_game}
 use Rattle.endgame_run.specs.Limits.{limits_of}
@@ -38,14 +38,14 @@ module _ {H S K : Type 0} (o : Outside H S K) where
   abbrev pub RunsWords : List (List ℕ) → Desk H S K → Status → Desk H S K → Type 0
   RunsWords words a status b = (SayNoJob words × RefusesWords a status b) ⊎ ((job : Job) × IsOnlyJob words job × Runs job a status b)
 
--- the steps of a run for a task; no number is said of those of the engine
-abbrev pub AreTaskSteps : Task → Job → Input → ℕ → ℕ → Type 0
-AreTaskSteps (ask question word) job i = AreToldSteps question (limits_of job) (told_of i word) job.settings
-AreTaskSteps (play word) job i = AreToldSteps (question_of_game job.cycles) (limits_of job) (told_of i word) job.settings
-AreTaskSteps (trial number) job i = AreTrialSteps number
-AreTaskSteps (calc expression) job i = λ before now. now ≡ before
-AreTaskSteps gtp job i = λ before now. Unit {0}
+-- the steps of a run for a task, which goes from one input to another
+abbrev pub AreTaskSteps : Task → Job → Input → Input → ℕ → ℕ → Type 0
+AreTaskSteps (ask question word) job i j = AreToldSteps question (limits_of job) (told_of i word) job.settings
+AreTaskSteps (play word) job i j = AreToldSteps (question_of_game job.cycles) (limits_of job) (told_of i word) job.settings
+AreTaskSteps (trial number) job i j = AreTrialSteps number
+AreTaskSteps (calc expression) job i j = λ before now. now ≡ before
+AreTaskSteps gtp job i j = AreSessionSteps (session_rules job) i j
 
 -- the steps of a run for the words: none outside the grammar
-abbrev pub AreSteps : List (List ℕ) → Input → ℕ → ℕ → Type 0
-AreSteps words i before now = (SayNoJob words × (now ≡ before)) ⊎ ((job : Job) × IsOnlyJob words job × AreTaskSteps job.task job i before now)
+abbrev pub AreSteps : List (List ℕ) → Input → Input → ℕ → ℕ → Type 0
+AreSteps words i j before now = (SayNoJob words × (now ≡ before)) ⊎ ((job : Job) × IsOnlyJob words job × AreTaskSteps job.task job i j before now)

@@ -1,7 +1,8 @@
 -- How many steps a run takes: one for each position of a region that is expanded.
-use Rattle.std.specs.Prelude.{◌≡◌, ◌⊎◌, ◌+◌, ◌≤◌, ℕ, List, Ok, Some, None, Option}
+use Rattle.std.specs.Prelude.{◌≡◌, ◌⊎◌, ◌+◌, ◌≤◌, ℕ, zero, suc, List, Ok, Some, None, Option}
 use Rattle.desk_io.specs.Desk.{Input}
 use Rattle.desk_io.specs.Files.Told.{holding}
+use Rattle.desk_io.specs.Lines.{IsLine}
 use Rattle.go_grid.specs.Region.{Region}
 use Rattle.sgf_go.specs.File.{Reads}
 use Rattle.sgf_go.specs.declared.settings.Setup.{Setup}
@@ -11,6 +12,7 @@ use Rattle.gd_words.specs.Task.Task.{ask, calc, play, trial}
 use Rattle.region_cut.specs.Cut.{AreRegionsOfPlay}
 use Rattle.endgame_solver.specs.Faults.{most_steps}
 use Rattle.endgame_solver.specs.declared.limits.Limits.{Limits}
+use Rattle.endgame_run.specs.Engine.{AreSessionSteps, session_rules}
 use Rattle.endgame_run.specs.File.{told_of}
 use Rattle.endgame_run.specs.Limits.{limits_of}
 use Rattle.endgame_run.specs.Run.{AreTaskSteps}
@@ -36,9 +38,23 @@ NeedsNoRegions task = ⊥
 
 -- the steps for the regions of play of the position that a job is about
 abbrev pub TakesFewSteps : Type 0
-TakesFewSteps = (job : Job) (i : Input) (limits : Limits) (setup : Setup) (regions : List Region) (before now : ℕ) → AreTaskSteps job.task job i before now
+TakesFewSteps = (job : Job) (i j : Input) (limits : Limits) (setup : Setup) (regions : List Region) (before now : ℕ) → AreTaskSteps job.task job i j before now
     → IsAbout job.task job i limits setup → AreRegionsOfPlay setup.board regions → now ≤ before + most_steps limits regions
 
 -- no steps where no regions of play are needed
 abbrev pub TakesNoSteps : Type 0
-TakesNoSteps = (job : Job) (i : Input) (before now : ℕ) → AreTaskSteps job.task job i before now → NeedsNoRegions job.task → now ≡ before
+TakesNoSteps = (job : Job) (i j : Input) (before now : ℕ) → AreTaskSteps job.task job i j before now → NeedsNoRegions job.task → now ≡ before
+
+-- so many lines stand at the front of the bytes, before these
+abbrev pub AreLinesBefore : ℕ → List ℕ → List ℕ → Type 0
+AreLinesBefore zero bytes rest = rest ≡ bytes
+AreLinesBefore (suc n) bytes rest = (behind line : List ℕ) × AreLinesBefore n bytes behind × IsLine 1024 behind line rest
+
+-- the bytes have this line
+abbrev pub HaveLine : List ℕ → List ℕ → Type 0
+HaveLine bytes line = (n : ℕ) × (behind rest : List ℕ) × AreLinesBefore n bytes behind × IsLine 1024 behind line rest
+
+-- no steps in a session over bytes none of whose lines takes any
+abbrev pub IdleTakesNoSteps : Type 0
+IdleTakesNoSteps = (job : Job) (i j : Input) (bytes : List ℕ) (before now : ℕ) → AreSessionSteps (session_rules job) i j before now → i.left ≡ Some bytes
+    → ((line : List ℕ) → HaveLine bytes line → (s : (session_rules job).State) (a b : ℕ) → (session_rules job).Steps s line a b → b ≡ a) → now ≡ before

@@ -1,8 +1,8 @@
 //! Sessions of the engine.
 
 ghost use Rattle.std.specs.Prelude.{◌≤◌};
-ghost use Rattle.desk_io.specs.Desk.{IsLater, desk, known, outside};
-ghost use Rattle.endgame_run.specs.Engine.{RunsEngine, board_rules, engine_rules};
+ghost use Rattle.desk_io.specs.Desk.{IsLater, desk, input_of, known, outside};
+ghost use Rattle.endgame_run.specs.Engine.{AreSessionSteps, RunsEngine, board_rules, engine_rules};
 ghost use Rattle.endgame_run.specs.inner.Top.{IsClosed};
 
 use crate::ending::finish;
@@ -42,6 +42,9 @@ pub(crate) fn run_gtp<H: Shelf, S: Source, K: Sink, L: Ledger>(
     requires modest { limits.positions ≤ MOST_POSITIONS }
     ensures ran { RunsEngine (outside H.Shelf S.Source K.Sink) (engine_rules limits)
         (desk shelf.old lines.old out.old) result (desk shelf.new lines.new out.new) }
+    ensures steps { AreSessionSteps (engine_rules limits)
+        (input_of H.Shelf S.Source shelf.old lines.old)
+        (input_of H.Shelf S.Source shelf.new lines.new) steps.old steps.new }
     ensures later { IsLater
         (known (outside H.Shelf S.Source K.Sink) (desk shelf.old lines.old out.old))
         (known (outside H.Shelf S.Source K.Sink) (desk shelf.new lines.new out.new)) }
@@ -50,8 +53,6 @@ pub(crate) fn run_gtp<H: Shelf, S: Source, K: Sink, L: Ledger>(
         return Status::Memory;
     };
     let end = engine.run(shelf, lines, out, steps);
-    // The call says that the list ascends.
-    let _failed = engine.loads().failures();
     drop(engine);
     close(end, out)
 }
@@ -68,6 +69,9 @@ pub(crate) fn run_board<H: Shelf, S: Source, K: Sink, L: Ledger>(
     requires modest { limits.positions ≤ MOST_POSITIONS }
     ensures ran { RunsEngine (outside H.Shelf S.Source K.Sink) (board_rules limits)
         (desk shelf.old lines.old out.old) result (desk shelf.new lines.new out.new) }
+    ensures steps { AreSessionSteps (board_rules limits)
+        (input_of H.Shelf S.Source shelf.old lines.old)
+        (input_of H.Shelf S.Source shelf.new lines.new) steps.old steps.new }
     ensures later { IsLater
         (known (outside H.Shelf S.Source K.Sink) (desk shelf.old lines.old out.old))
         (known (outside H.Shelf S.Source K.Sink) (desk shelf.new lines.new out.new)) }
@@ -76,8 +80,6 @@ pub(crate) fn run_board<H: Shelf, S: Source, K: Sink, L: Ledger>(
         return Status::Memory;
     };
     let end = engine.run(shelf, lines, out, steps);
-    // The call says that the list ascends.
-    let _failed = engine.loads().failures();
     drop(engine);
     close(end, out)
 }

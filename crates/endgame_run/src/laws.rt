@@ -5,7 +5,7 @@ ghost use Rattle.endgame_run.specs.Complete.{IsAnswered};
 ghost use Rattle.endgame_run.specs.KeepsWin.{EngineKeepsWin};
 ghost use Rattle.endgame_run.specs.Laws.{HasOneGame, ExpressionHasOneStatus, HasOneStatus, RefusesFaults, RefusesUnshown, RefusesUnsteady, ShowsShown, ShowsSteady, SolvesSound, SolvesSteady};
 ghost use Rattle.endgame_run.specs.Output.{CountsWrites, HasCauses, RefusesNoJob, WritesPart};
-ghost use Rattle.endgame_run.specs.Steps.{TakesFewSteps, TakesNoSteps};
+ghost use Rattle.endgame_run.specs.Steps.{IdleTakesNoSteps, TakesFewSteps, TakesNoSteps};
 ghost use Rattle.endgame_run.specs.Use.{AsksShelf, LeavesLines, ReadsToEnd, TakesFew};
 
 use desk_io::{Shelf, Sink, Source};
@@ -44,9 +44,10 @@ pub fn run_laws<H: Shelf, S: Source, K: Sink>()
     ensures asked { AsksShelf (outside H.Shelf S.Source K.Sink) }
 {}
 
-/// The steps of a run: at most one for each position of the regions of play that the words need, and none where they need none.
-/// It has no code.
+/// The steps of a run: at most one for each position of the regions of play that the words need, and none where they need none, or
+/// in a session none of whose lines takes any. It has no code.
 pub fn step_laws()
     ensures few { TakesFewSteps }
     ensures none { TakesNoSteps }
+    ensures idle { IdleTakesNoSteps }
 {}

@@ -140,7 +140,8 @@ fn run_job<H: Shelf, S: Source, K: Sink, L: Ledger>(
         (known (outside H.Shelf S.Source K.Sink) (desk shelf.old lines.old out.old))
         (known (outside H.Shelf S.Source K.Sink) (desk shelf.new lines.new out.new)) }
     ensures steps { AreTaskSteps (viewed job.now).task (viewed job.now)
-        (input_of H.Shelf S.Source shelf.old lines.old) steps.old steps.new }
+        (input_of H.Shelf S.Source shelf.old lines.old)
+        (input_of H.Shelf S.Source shelf.new lines.new) steps.old steps.new }
 {
     match asked(job) {
         Asked::Answer(inquiry) => {
@@ -178,7 +179,8 @@ pub fn run<H: Shelf, S: Source, K: Sink, L: Ledger>(
         (known (outside H.Shelf S.Source K.Sink) (desk shelf.old lines.old out.old))
         (known (outside H.Shelf S.Source K.Sink) (desk shelf.new lines.new out.new)) }
     ensures steps { AreSteps (texts words.now)
-        (input_of H.Shelf S.Source shelf.old lines.old) steps.old steps.new }
+        (input_of H.Shelf S.Source shelf.old lines.old)
+        (input_of H.Shelf S.Source shelf.new lines.new) steps.old steps.new }
 {
     let Ok(job) = gd_words::read(words) else {
         return finish(out, Status::Usage, b"fault usage\n");

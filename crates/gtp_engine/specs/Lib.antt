@@ -2,6 +2,7 @@ pub mod Moves
 pub mod Request
 pub mod Session
 pub mod Asking
+pub mod Steps
 pub mod Written
 pub mod Kept
 pub mod Laws

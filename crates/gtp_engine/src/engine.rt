@@ -1,20 +1,18 @@
 //! The engine.
 
-ghost use Rattle.std.specs.Prelude.{◌≡◌, ◌≤◌, ◌<◌, ◌+◌, List, ℕ, [], Some, true, false, IfOk, OnErr};
-ghost use Rattle.endgame_solver.specs.Faults.{most_steps};
-ghost use Rattle.go_grid.specs.Region.{Region};
-ghost use Rattle.region_cut.specs.Cut.{AreRegionsOfPlay};
+ghost use Rattle.std.specs.Prelude.{◌≡◌, ◌≤◌, ◌<◌, ◌⊎◌, List, ℕ, [], Some, true, false, IfOk, OnErr};
 ghost use Rattle.sgf_go.specs.Komi.{IsInRange};
 ghost use Rattle.sgf_go.specs.Position.{IsFit};
 ghost use Rattle.gtp_words.specs.Asking.{AsksBy};
 ghost use Rattle.gtp_words.specs.declared.loading.Loading.TheVariants.{Position};
 ghost use Rattle.gtp_engine.specs.Asking.{AskedNames, LineNames, OrderNames};
-ghost use Rattle.gtp_engine.specs.inner.Doing.{AsksInRange, CanKeep, HasKomiInRange, IsDone, IsFresh, IsLoadNoted, IsPlainOrder, IsRunning, IsTurnTaken, with_table};
+ghost use Rattle.gtp_engine.specs.inner.Doing.{AsksInRange, CanKeep, HasKomiInRange, IsDone, IsFresh, IsLoadNoted, IsPlainOrder, IsRunning};
 ghost use Rattle.gtp_engine.specs.inner.Viewed.{asked_of, order_of};
 ghost use Rattle.gtp_engine.specs.Kept.{HasRoomFor, LeavesRoom};
 ghost use Rattle.gtp_engine.specs.Request.Asked.{something};
 ghost use Rattle.gtp_engine.specs.Request.Order.{boardsize, komi, loadsgf};
-ghost use Rattle.gtp_engine.specs.Session.{SaysWhetherKnown, done, fresh, game_limits, is_last, refused, reply_text, with_side};
+ghost use Rattle.gtp_engine.specs.Session.{SaysWhetherKnown, done, fresh, is_last, refused, reply_text};
+ghost use Rattle.gtp_engine.specs.Steps.{AreLineSteps, AskForTurn, IsTurn, OpensWithin};
 ghost use Rattle.gtp_engine.specs.Written.{IsEngineReply, unused};
 ghost use Rattle.gtp_engine.specs.inner.Written.{IsMet, IsObeyed};
 
@@ -27,7 +25,7 @@ use crate::setups::fresh;
 use desk_io::Shelf;
 use engine_player::Player;
 use game_text::Text;
-use go_grid::{Colour, Size};
+use go_grid::Size;
 use gtp_words::{Answer, Loading, Loads, MOST_LOADS, clean, load, split, take_id};
 use local_graph::MOST_POSITIONS;
 use local_play::Steps;
@@ -126,16 +124,6 @@ impl Engine {
         self.setup = setup;
         // A game is large: as a call its drop is one step of the proof.
         drop(mem::replace(&mut self.game, game));
-    }
-
-    /// Begins a game with the colour to move.
-    pub(crate) fn start(&mut self, colour: Colour, game: Player)
-        ensures { self.new ≡ with_table self.old
-            (record { setup = with_side self.old.table.setup colour; game = Some game }) }
-    {
-        self.setup.side = colour;
-        // As in `put`.
-        drop(mem::replace(&mut self.game, Some(game)));
     }
 
     /// A fresh empty board of a size with the present komi.
@@ -317,9 +305,8 @@ impl Engine {
         ensures same { OnErr result (self.new ≡ self.old) }
         ensures same_files { H.files shelf.new ≡ H.files shelf.old }
         ensures later { H.faults shelf.old ≤ H.faults shelf.new }
-        ensures steps { (regions : List Region)
-            → AreRegionsOfPlay self.old.table.setup.board regions
-            → steps.new ≤ steps.old + most_steps (game_limits self.old.limits) regions }
+        ensures steps { (steps.new ≡ steps.old) ⊎ (IsTurn (order_of request.entry)
+            × OpensWithin self.old.limits self.old.table steps.old steps.new) }
     {
         match request {
             Request::Play(colour, wanted) => {
@@ -350,9 +337,8 @@ impl Engine {
         ensures same { OnErr result (self.new ≡ self.old) }
         ensures same_files { H.files shelf.new ≡ H.files shelf.old }
         ensures later { H.faults shelf.old ≤ H.faults shelf.new }
-        ensures steps { (regions : List Region)
-            → AreRegionsOfPlay self.old.table.setup.board regions
-            → steps.new ≤ steps.old + most_steps (game_limits self.old.limits) regions }
+        ensures steps { (steps.new ≡ steps.old) ⊎ (AskForTurn (asked_of asked.entry)
+            × OpensWithin self.old.limits self.old.table steps.old steps.new) }
     {
         let alloc = self.setup.board.allocator();
         match asked {
@@ -384,9 +370,8 @@ impl Engine {
         ensures same { OnErr result (self.new ≡ self.old) }
         ensures same_files { H.files shelf.new ≡ H.files shelf.old }
         ensures later_loads { H.faults shelf.old ≤ H.faults shelf.new }
-        ensures steps { (regions : List Region)
-            → AreRegionsOfPlay self.old.table.setup.board regions
-            → steps.new ≤ steps.old + most_steps (game_limits self.old.limits) regions }
+        ensures steps { AreLineSteps self.old.limits self.old.table line.now
+            steps.old steps.new }
     {
         let alloc = self.setup.board.allocator();
         let text = clean(alloc, line)?;

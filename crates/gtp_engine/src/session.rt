@@ -5,10 +5,12 @@ ghost use Rattle.desk_io.specs.Lines.{UsesLines};
 ghost use Rattle.desk_io.specs.Outside.{Rose};
 ghost use Rattle.gtp_words.specs.declared.end.GtpEnd.TheVariants.{ReadFault, WriteFault};
 ghost use Rattle.gtp_words.specs.Asking.{AsksInSession};
-ghost use Rattle.gtp_words.specs.Loads.{RoseBy};
+ghost use Rattle.gtp_words.specs.Loads.{AreLoads, RoseBy};
 ghost use Rattle.gtp_words.specs.Sessions.{WritesByEnd};
+ghost use Rattle.gtp_words.specs.Steps.{StepsByEnd, StepsOfLines, counted};
 ghost use Rattle.gtp_engine.specs.Asking.{LineNames};
 ghost use Rattle.gtp_engine.specs.Session.{AnswersLine, Table, first_table};
+ghost use Rattle.gtp_engine.specs.Steps.{AreLineSteps};
 ghost use Rattle.gtp_engine.specs.Written.{unused};
 
 use crate::engine::Engine;
@@ -23,6 +25,7 @@ impl AnswersLines for Engine {
     ghost use Rattle.gtp_engine.specs.Asking.{LineNames};
     ghost use Rattle.gtp_engine.specs.Kept.{CanAnswer};
     ghost use Rattle.gtp_engine.specs.Session.{AnswersLine, Table};
+    ghost use Rattle.gtp_engine.specs.Steps.{AreLineSteps};
     ghost use Rattle.gtp_engine.specs.Written.{loaded};
 
     ghost State = { Table };
@@ -36,6 +39,8 @@ impl AnswersLines for Engine {
     ghost replies = { AnswersLine };
 
     ghost names = { LineNames };
+
+    ghost line_steps = { AreLineSteps };
 
     ghost has_room = { CanAnswer };
 
@@ -65,6 +70,15 @@ impl Engine {
             self.new.table (S.left lines.new) result }
         ensures asked { (bytes : List ℕ) → S.left lines.old ≡ Some bytes → AsksInSession H.asks
             LineNames bytes shelf.old (S.left lines.new) shelf.new result }
+        ensures steps { (bytes : List ℕ) → S.left lines.old ≡ Some bytes
+            → StepsByEnd Table (AreLineSteps self.old.limits)
+            (AnswersLine self.old.limits (H.files shelf.old)) self.new.loads.failures
+            (counted first_table steps.old) bytes (K.holds out.old) (K.holds out.new)
+            (counted self.new.table steps.new) (S.left lines.new) result }
+        ensures lines { StepsOfLines (AreLineSteps self.old.limits)
+            (AnswersLine self.old.limits (H.files shelf.old)) MOST_LINES
+            (counted first_table steps.old) (counted self.new.table steps.new) }
+        ensures loads { AreLoads self.new.loads }
         ensures counted { RoseBy (length self.new.loads.failures) (H.faults shelf.old)
             (H.faults shelf.new) }
         ensures read_fault { result ≡ ReadFault → Rose (S.faults lines.old) (S.faults lines.new) }

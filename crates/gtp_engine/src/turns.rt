@@ -1,6 +1,6 @@
 //! Turns: of a running game, and of one that a setup opens.
 
-ghost use Rattle.std.specs.Prelude.{◌≡◌, ◌↔◌, ◌≤◌, ◌+◌, List, Some, true, IfOk, OnErr};
+ghost use Rattle.std.specs.Prelude.{◌≡◌, ◌↔◌, ◌≤◌, ◌⊎◌, ◌+◌, List, Some, true, IfOk, OnErr};
 ghost use Rattle.endgame_solver.specs.Faults.{most_steps};
 ghost use Rattle.go_grid.specs.Region.{Region};
 ghost use Rattle.region_cut.specs.Cut.{AreRegionsOfPlay};
@@ -8,6 +8,7 @@ ghost use Rattle.engine_player.specs.EngineGame.{EngineGame};
 ghost use Rattle.engine_player.specs.Room.{CanTake};
 ghost use Rattle.gtp_engine.specs.Kept.{HasRoomFor};
 ghost use Rattle.gtp_engine.specs.Session.{game_limits, with_side};
+ghost use Rattle.gtp_engine.specs.Steps.{OpensWithin};
 ghost use Rattle.gtp_engine.specs.inner.Doing.{IsFresh, IsRunning, IsTurnTaken, with_table};
 ghost use Rattle.gtp_engine.specs.inner.Playing.{IsActed, IsOpened};
 
@@ -20,6 +21,7 @@ use game_text::Text;
 use go_grid::Colour;
 use local_play::Steps;
 use std::alloc::AllocError;
+use std::mem;
 use std::sync::ledger::Ledger;
 
 /// Whether the two are the same.
@@ -71,6 +73,16 @@ impl Engine {
         let game = open(alloc, &setup, &limits, self.limits.cycles, steps);
         drop(setup);
         game
+    }
+
+    /// Begins a game with the colour to move.
+    fn start(&mut self, colour: Colour, game: Player)
+        ensures { self.new ≡ with_table self.old
+            (record { setup = with_side self.old.table.setup colour; game = Some game }) }
+    {
+        self.setup.side = colour;
+        // A game is large: as a call its drop is one step of the proof.
+        drop(mem::replace(&mut self.game, Some(game)));
     }
 
     /// The first turn in a game that the setup has opened with the colour to move.
@@ -135,9 +147,8 @@ impl Engine {
         ensures taken { IfOk result
             (λ reply. IsTurnTaken colour action id.now self.old reply self.new) }
         ensures same { OnErr result (self.new ≡ self.old) }
-        ensures steps { (regions : List Region)
-            → AreRegionsOfPlay self.old.table.setup.board regions
-            → steps.new ≤ steps.old + most_steps (game_limits self.old.limits) regions }
+        ensures steps { (steps.new ≡ steps.old)
+            ⊎ OpensWithin self.old.limits self.old.table steps.old steps.new }
     {
         if self.is_running() {
             return self.go_on(id, colour, action);

@@ -1,19 +1,20 @@
 -- Which files a session has asked for.
-use Rattle.std.proofs.Common.{◌≡◌, ◌≢◌, ◌≤◌, ◌⊎◌, ◌++◌, ℕ, suc, List, [], ◌∷◌, length, take, drop, inl, inr, refl, sym, ap, ◌∙◌, subst, arith, length-append, Option, Some, None, Ok, Err, Result, IsErr}
+use Rattle.std.proofs.Common.{◌≡◌, ◌≢◌, ◌≤◌, ◌⊎◌, ◌++◌, ℕ, suc, List, [], ◌∷◌, length, take, drop, inl, inr, refl, sym, ap, subst, Option, Some, None, Ok, Err, Result, IsErr}
 use Rattle.std.proofs.lemmas.Result.{IfOk-from_err}
 use Rattle.desk_io.specs.Lines.{IsFound, IsLine, IsSameInput}
 use Rattle.desk_io.specs.declared.lines.FoundLine.{FoundLine}
 use Rattle.gtp_words.specs.declared.end.GtpEnd.{GtpEnd}
 use Rattle.gtp_words.specs.declared.end.GtpEnd.TheVariants.{InputEnded, Memory, Quit, ReadFault, TooManyLines, WriteFault}
-use Rattle.gtp_words.specs.Asking.{Asking, AsksBy, AsksInSession, AsksNamed, AsksOnLine, AsksOnLines, IsUnread, LineName, Naming}
-use Rattle.gtp_words.specs.Words.{AreWords, HasId, cleaned}
+use Rattle.gtp_words.specs.Asking.{Asking, AsksBy, AsksInSession, AsksNamed, AsksOnLine, AsksOnLines, IsUnread, Naming}
+use Rattle.gtp_words.specs.Words.{AreWords, HasId, LineAsks, cleaned}
 use Rattle.gtp_words.specs.inner.Taking.{AskedOnLine}
+use Rattle.gtp_words.proofs.TakenLineLemmas.{found_first}
 
--- the name in a line with words
-pub words_name : {A : Type 0} (Asks : List (List ℕ) → A → Type 0) (Names : A → Option (List ℕ) → Type 0) (line id : List ℕ) (words rest : List (List ℕ)) (asked : A) → AreWords (cleaned line) words
-    → words ≢ [] → HasId words id rest → Asks rest asked → (name : Option (List ℕ)) → Names asked name → LineName Asks Names line name
-words_name Asks Names line id [] rest asked are some has asks name named = absurd (some refl)
-words_name Asks Names line id (word ∷ words) rest asked are some has asks name named = (word ∷ words, are, (id, rest, asked, has, asks, named))
+-- what a line with words asks for
+pub line_asks : {A : Type 0} (Asks : List (List ℕ) → A → Type 0) (Nothing : Type 0) (IsSuch : A → Type 0) (line id : List ℕ) (words rest : List (List ℕ)) (asked : A) → AreWords (cleaned line) words
+    → words ≢ [] → HasId words id rest → Asks rest asked → IsSuch asked → LineAsks Asks Nothing IsSuch line
+line_asks Asks Nothing IsSuch line id [] rest asked are some has asks such = absurd (some refl)
+line_asks Asks Nothing IsSuch line id (word ∷ words) rest asked are some has asks such = (word ∷ words, are, (id, rest, asked, has, asks, such))
 
 module _ {H A E : Type 0} (asks : Asking H) (Named : Option (List ℕ) → Type 0) (s : H) where
   -- no file is named, and none is asked for
@@ -61,17 +62,8 @@ module _ {H : Type 0} (asks : Asking H) (Named : Naming) where
       on_line : (used : List ℕ) → used ≡ drop f.taken held → AsksNamed asks (Named line) s t → (bytes : List ℕ) → left ≡ Some bytes
           → (rest : List ℕ) × (left' ≡ Some rest) × AsksOnLine asks Named (start ++ bytes) s (used ++ rest) t
       on_line used behind asked bytes e =
-          let r = same bytes e in (
-            r.0,
-            r.1,
-            (
-              line,
-              (λ n. absurd (omega (arith, found.2, ap length (sym r.2 ∙ n), length-append held r.0))),
-              subst (λ u. IsLine 1024 (start ++ bytes) line (u ++ r.0)) (sym behind) (subst (λ l. IsLine 1024 (start ++ bytes) l (drop f.taken held ++ r.0)) (sym is)
-                  (subst (λ l. IsLine 1024 l (take f.line held) (drop f.taken held ++ r.0)) (sym r.2) (found.3 r.0 r.1))),
-              asked,
-            ),
-          )
+          let r = found_first start held left left' same f found line is bytes e in
+          (r.0, r.1, (line, r.2, subst (λ u. IsLine 1024 (start ++ bytes) line (u ++ r.0)) (sym behind) r.3, asked))
 
       -- memory was refused
       pub asked_waiting : (t ≡ s) ⊎ AsksNamed asks (Named line) s t → AskedBehind start left s held left' t (Some Memory)

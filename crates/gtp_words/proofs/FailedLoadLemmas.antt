@@ -1,9 +1,10 @@
 -- Which loads of a session failed.
-use Rattle.std.proofs.Common.{◌<◌, ◌≤◌, ◌+◌, ◌++◌, ◌∷◌, ◌↔◌, ℕ, List, [], length, inl, inr, sym, ap, subst, arith, length-append}
+use Rattle.std.proofs.Common.{◌<◌, ◌≤◌, ◌+◌, ◌++◌, ◌∷◌, ◌↔◌, ℕ, List, [], length, inl, inr, refl, sym, ap, subst, arith, length-append}
 use Rattle.std.specs.Prelude.{Contains}
 use Rattle.std.proofs.lemmas.List.Elements.{Contains-append_left, Contains-push, Contains-push_cases}
-use Rattle.gtp_words.specs.Loads.{Fate, IsLoadNumbered, Loads, NotesFate, RoseBy, unloaded}
+use Rattle.gtp_words.specs.Loads.{AreLoads, Fate, IsLoadNumbered, Loads, NotesFate, RoseBy, unloaded}
 use Rattle.gtp_words.specs.Loads.Fate.{no_load, made, failed}
+use Rattle.gtp_words.proofs.LoadLemmas.{loads_failed, loads_more}
 
 -- the list tells of the loads so far what is noted of them
 abbrev pub Agrees : Loads → List ℕ → Type 0
@@ -19,21 +20,16 @@ agrees_itself l = λ n lt. ((λ c. c), (λ c. c))
 not_pushed : (loads n : ℕ) (known : List ℕ) → n < loads → Contains (known ++ loads ∷ []) n → Contains known n
 not_pushed loads n known lt c = elim (Contains-push_cases known loads n c) [ inl old ↦ old | inr new ↦ absurd (omega (arith, lt, new)) ]
 
-pub unloaded_below : AreBelow unloaded
-unloaded_below = λ n c. absurd (omega (arith, c.1))
+-- no load
+pub unloaded_are : AreLoads unloaded
+unloaded_are = record { ascending = λ k lt. absurd (omega (arith, lt)); below = λ n c. absurd (omega (arith, c.1)) }
 
 module _ (before now : ℕ) (a : Loads) where
-  below_made : AreBelow a → AreBelow (record { count = a.count + 1; failures = a.failures })
-  below_made below = λ n c. omega (arith, below n c)
-
-  below_failed : AreBelow a → AreBelow (record { count = a.count + 1; failures = a.failures ++ a.count ∷ [] })
-  below_failed below = λ n c. elim (Contains-push_cases a.failures a.count n c) [ inl old ↦ omega (arith, below n old) | inr new ↦ omega (arith, new) ]
-
-  -- the numbers stay below that of the next load
-  pub noted_below : (b : Loads) (fate : Fate) → NotesFate before now fate a b → AreBelow a → AreBelow b
-  noted_below b no_load h below = subst AreBelow (sym h) below
-  noted_below b made h below = subst AreBelow (sym h) (below_made below)
-  noted_below b failed h below = subst AreBelow (sym h.0) (below_failed below)
+  -- what is noted of a load leaves loads
+  pub noted_are : (b : Loads) (fate : Fate) → NotesFate before now fate a b → AreLoads a → AreLoads b
+  noted_are b no_load h are = subst AreLoads (sym h) are
+  noted_are b made h are = subst AreLoads (sym h) (loads_more a.count a.failures are)
+  noted_are b failed h are = subst AreLoads (sym h.0) (loads_failed a.count a.failures (a.failures ++ a.count ∷ []) refl are)
 
   agrees_failed : (failing : List ℕ) → Agrees (record { count = a.count + 1; failures = a.failures ++ a.count ∷ [] }) failing → Agrees a failing
   agrees_failed failing agrees = λ n lt.

@@ -8,3 +8,4 @@ pub mod AskingLemmas
 pub mod OneTextLaws
 pub mod OneWordsLaws
 pub mod SessionLemmas
+pub mod StepLemmas

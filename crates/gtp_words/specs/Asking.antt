@@ -1,9 +1,9 @@
 -- Which files a session asks its shelf for.
-use Rattle.std.specs.Prelude.{◌≡◌, ◌≢◌, ◌≤◌, ◌⊎◌, ◌++◌, ℕ, zero, suc, List, [], ◌∷◌, length, Option, Some, None, Result, MatchResult}
+use Rattle.std.specs.Prelude.{◌≡◌, ◌≢◌, ◌≤◌, ◌⊎◌, ◌++◌, ℕ, zero, suc, List, [], length, Option, Some, None, Result, MatchResult}
 use Rattle.desk_io.specs.Lines.{IsLine}
 use Rattle.gtp_words.specs.declared.end.GtpEnd.{GtpEnd}
 use Rattle.gtp_words.specs.declared.end.GtpEnd.TheVariants.{Memory}
-use Rattle.gtp_words.specs.Words.{AreWords, HasId, cleaned}
+use Rattle.gtp_words.specs.Words.{LineAsks}
 
 -- how the file of a name is asked for, once
 abbrev pub Asking : Type 0 → Type 1
@@ -13,14 +13,9 @@ Asking H = H → List ℕ → H → Type 0
 abbrev pub Naming : Type 1
 Naming = List ℕ → Option (List ℕ) → Type 0
 
--- the name in words, by what they ask for behind the id
-abbrev pub WordsName : {A : Type 0} → (List (List ℕ) → A → Type 0) → (A → Option (List ℕ) → Type 0) → List (List ℕ) → Option (List ℕ) → Type 0
-WordsName {A} Asks Names [] name = name ≡ None
-WordsName {A} Asks Names (word ∷ words) name = (id : List ℕ) × (rest : List (List ℕ)) × (asked : A) × HasId (word ∷ words) id rest × Asks rest asked × Names asked name
-
--- the name in a line, by its words
+-- the name in a line, by what its words ask for
 abbrev pub LineName : {A : Type 0} → (List (List ℕ) → A → Type 0) → (A → Option (List ℕ) → Type 0) → Naming
-LineName Asks Names line name = (words : List (List ℕ)) × AreWords (cleaned line) words × WordsName Asks Names words name
+LineName Asks Names line name = LineAsks Asks (name ≡ None) (λ asked. Names asked name) line
 
 -- the file of this name is asked for, once, and no other; or none is
 abbrev pub AsksFile : {H : Type 0} → Asking H → Option (List ℕ) → H → H → Type 0

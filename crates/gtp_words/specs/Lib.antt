@@ -5,5 +5,6 @@ pub mod Loads
 pub mod Files
 pub mod Sessions
 pub mod Asking
+pub mod Steps
 pub mod Laws
 pub mod inner

@@ -39,6 +39,15 @@ abbrev pub HasId : List (List ℕ) → List ℕ → List (List ℕ) → Type 0
 HasId words id rest = ((words ≡ id ∷ rest) × IsNumeral id)
     ⊎ ((id ≡ []) × (rest ≡ words) × ((first : List ℕ) (more : List (List ℕ)) → words ≡ first ∷ more → ¬ IsNumeral first))
 
+-- the words ask behind the id for something that is such; or there are no words, where this holds
+abbrev pub WordsAsk : {A : Type 0} → (List (List ℕ) → A → Type 0) → Type 0 → (A → Type 0) → List (List ℕ) → Type 0
+WordsAsk {A} Asks Nothing IsSuch [] = Nothing
+WordsAsk {A} Asks Nothing IsSuch (word ∷ words) = (id : List ℕ) × (rest : List (List ℕ)) × (asked : A) × HasId (word ∷ words) id rest × Asks rest asked × IsSuch asked
+
+-- a line asks by its words for something that is such; or it has no words, where this holds
+abbrev pub LineAsks : {A : Type 0} → (List (List ℕ) → A → Type 0) → Type 0 → (A → Type 0) → List ℕ → Type 0
+LineAsks Asks Nothing IsSuch line = (words : List (List ℕ)) × AreWords (cleaned line) words × WordsAsk Asks Nothing IsSuch words
+
 -- the word in small letters
 abbrev pub lowered : List ℕ → List ℕ
 lowered word = map to_ascii_lowercase word

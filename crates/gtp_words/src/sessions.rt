@@ -7,9 +7,10 @@ ghost use Rattle.desk_io.specs.Lines.{UsesLines};
 ghost use Rattle.desk_io.specs.Outside.{Appends, HasCause, Rose};
 ghost use Rattle.gtp_words.specs.declared.end.GtpEnd.TheVariants.{ReadFault, WriteFault};
 ghost use Rattle.gtp_words.specs.Asking.{AsksBy, AsksInSession};
-ghost use Rattle.gtp_words.specs.Loads.{Fate, RoseBy, unloaded};
+ghost use Rattle.gtp_words.specs.Loads.{AreLoads, Fate, RoseBy, unloaded};
 ghost use Rattle.gtp_words.specs.Sessions.{IsReply, Loaded, WritesByEnd};
-ghost use Rattle.gtp_words.specs.inner.Taking.{AskedOnLine, IsSomeNoted, LineTaken};
+ghost use Rattle.gtp_words.specs.Steps.{StepsByEnd, StepsOfLines, counted};
+ghost use Rattle.gtp_words.specs.inner.Taking.{AskedOnLine, IsSomeNoted, LineCounted, LineStepped};
 
 use crate::end::GtpEnd;
 use crate::loads::MOST_LOADS;
@@ -49,6 +50,9 @@ pub trait AnswersLines {
     /// The name of the file that a line asks for, if it asks for one.
     ghost names: { List ℕ → Option (List ℕ) → Type 0 };
 
+    /// The steps of a line by the rules in a state: from which count to which.
+    ghost line_steps: { Rules → State → List ℕ → ℕ → ℕ → Type 0 };
+
     /// So many lines more can be answered.
     ghost has_room: { ℕ → State → Type 0 };
 
@@ -65,6 +69,8 @@ pub trait AnswersLines {
             (H.files shelf.old)) (H.faults shelf.old) (H.faults shelf.new) line.now
             (loaded self.old) answer.reply (loaded self.new) answer.quit) }
         ensures asked { AsksBy H.asks (names line.now) shelf.old shelf.new result }
+        ensures steps { line_steps (rules self.old) (loaded self.old).state line.now
+            steps.old steps.new }
         ensures rules { rules self.new ≡ rules self.old }
         ensures room { (n : ℕ) → has_room (n + 1) (loaded self.old).state
             → has_room n (loaded self.new).state }
@@ -97,15 +103,21 @@ fn take_line<A: AnswersLines, H: Shelf, S: Source, K: Sink, L: Ledger>(
     requires room { (n : ℕ) × A.has_room (n + 1) (A.loaded engine.old).state }
     ensures room { result ≡ None → (n : ℕ) → A.has_room (n + 1) (A.loaded engine.old).state
         → A.has_room n (A.loaded engine.new).state }
-    ensures taken { (bytes : List ℕ) → S.left lines.old ≡ Some bytes → (rest : List ℕ)
-        × (S.left lines.new ≡ Some rest)
-        × LineTaken A.State (A.replies (A.rules engine.old) (H.files shelf.old))
-        (H.faults shelf.old) (H.faults shelf.new) (A.loaded engine.old) (reader.old ++ bytes)
-        (K.holds out.old) (K.holds out.new) result (A.loaded engine.new) (reader.new ++ rest) }
     ensures asked { (bytes : List ℕ) → S.left lines.old ≡ Some bytes → (rest : List ℕ)
         × (S.left lines.new ≡ Some rest)
         × AskedOnLine H.asks A.names (reader.old ++ bytes) shelf.old (reader.new ++ rest) shelf.new
         result }
+    ensures taken { (bytes : List ℕ) → S.left lines.old ≡ Some bytes → (rest : List ℕ)
+        × (S.left lines.new ≡ Some rest)
+        × LineStepped A.State (A.line_steps (A.rules engine.old))
+        (A.replies (A.rules engine.old) (H.files shelf.old)) (H.faults shelf.old)
+        (H.faults shelf.new) (A.loaded engine.old) steps.old (reader.old ++ bytes)
+        (K.holds out.old) (K.holds out.new) result (A.loaded engine.new) steps.new
+        (reader.new ++ rest) }
+    ensures counted { LineCounted A.State (A.line_steps (A.rules engine.old))
+        (A.replies (A.rules engine.old) (H.files shelf.old))
+        (counted (A.loaded engine.old).state steps.old) result
+        (counted (A.loaded engine.new).state steps.new) }
     ensures noted { IsSomeNoted (H.faults shelf.old) (H.faults shelf.new)
         (A.loaded engine.old).loads (A.loaded engine.new).loads }
     ensures rules { A.rules engine.new ≡ A.rules engine.old }
@@ -153,6 +165,16 @@ pub fn run_session<A: AnswersLines, H: Shelf, S: Source, K: Sink, L: Ledger>(
         (K.holds out.new) (A.loaded engine.new).state (S.left lines.new) result }
     ensures asked { (bytes : List ℕ) → S.left lines.old ≡ Some bytes → AsksInSession H.asks A.names
         bytes shelf.old (S.left lines.new) shelf.new result }
+    ensures steps { (bytes : List ℕ) → S.left lines.old ≡ Some bytes
+        → StepsByEnd A.State (A.line_steps (A.rules engine.old))
+        (A.replies (A.rules engine.old) (H.files shelf.old)) (A.loaded engine.new).loads.failures
+        (counted (A.loaded engine.old).state steps.old) bytes (K.holds out.old) (K.holds out.new)
+        (counted (A.loaded engine.new).state steps.new) (S.left lines.new) result }
+    ensures lines { StepsOfLines (A.line_steps (A.rules engine.old))
+        (A.replies (A.rules engine.old) (H.files shelf.old)) MOST_LINES
+        (counted (A.loaded engine.old).state steps.old)
+        (counted (A.loaded engine.new).state steps.new) }
+    ensures loads { AreLoads (A.loaded engine.new).loads }
     ensures counted { RoseBy (length (A.loaded engine.new).loads.failures) (H.faults shelf.old)
         (H.faults shelf.new) }
     ensures rules { A.rules engine.new ≡ A.rules engine.old }

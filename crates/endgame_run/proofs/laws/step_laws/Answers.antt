@@ -1,4 +1,4 @@
-use Rattle.endgame_run.proofs.StepLaws.{takes_few_steps, takes_no_steps}
+use Rattle.endgame_run.proofs.StepLaws.{idle_takes_no_steps, takes_few_steps, takes_no_steps}
 use Rattle.endgame_run.proofs.laws.step_laws.Goals as goal
 
 pub returns-clause-few : goal.returns-clause-few
@@ -6,3 +6,6 @@ returns-clause-few c = takes_few_steps
 
 pub returns-clause-none : goal.returns-clause-none
 returns-clause-none c = takes_no_steps
+
+pub returns-clause-idle : goal.returns-clause-idle
+returns-clause-idle c = idle_takes_no_steps

@@ -3,7 +3,7 @@ use Rattle.desk_io.specs.Desk.{desk, input_of, known, outside}
 use Rattle.gd_words.specs.Viewed.{viewed}
 use Rattle.endgame_run.specs.inner.Top.{IsAsked}
 use Rattle.endgame_run.proofs.TopLaws.{later_refl}
-use Rattle.endgame_run.proofs.RunLaws.{board_runs, calc_runs, engine_runs, game_runs, game_steps, question_runs, question_steps, trial_runs}
+use Rattle.endgame_run.proofs.RunLaws.{board_runs, board_steps, calc_runs, engine_runs, engine_steps, game_runs, game_steps, question_runs, question_steps, trial_runs}
 use Rattle.endgame_run.proofs.top.run_job.Goals as goal
 
 pub returns-in-Answer-clause-ran : goal.returns-in-Answer-clause-ran
@@ -16,7 +16,8 @@ returns-in-Answer-clause-ran g c =
 pub returns-in-Answer-clause-steps : goal.returns-in-Answer-clause-steps
 returns-in-Answer-clause-steps g c =
     let own = subst (IsAsked (viewed c.args.job.now)) c.in-Answer.is c.asked.ensures in
-    question_steps (viewed c.args.job.now) (input_of g.H.Shelf g.S.Source c.args.shelf.now c.args.lines.now) c.args.steps.now c.run_question.new.steps c.in-Answer.inquiry.question
+    question_steps (viewed c.args.job.now) (input_of g.H.Shelf g.S.Source c.args.shelf.now c.args.lines.now)
+    (input_of g.H.Shelf g.S.Source c.run_question.new.shelf c.run_question.new.lines) c.args.steps.now c.run_question.new.steps c.in-Answer.inquiry.question
     c.in-Answer.inquiry.limits c.in-Answer.inquiry.word.now own.0 own.1 c.run_question.ensures.steps
 
 pub returns-in-Game-clause-ran : goal.returns-in-Game-clause-ran
@@ -29,7 +30,8 @@ returns-in-Game-clause-ran g c =
 pub returns-in-Game-clause-steps : goal.returns-in-Game-clause-steps
 returns-in-Game-clause-steps g c =
     let own = subst (IsAsked (viewed c.args.job.now)) c.in-Game.is c.asked.ensures in
-    game_steps (viewed c.args.job.now) (input_of g.H.Shelf g.S.Source c.args.shelf.now c.args.lines.now) c.args.steps.now c.run_game.new.steps
+    game_steps (viewed c.args.job.now) (input_of g.H.Shelf g.S.Source c.args.shelf.now c.args.lines.now)
+    (input_of g.H.Shelf g.S.Source c.run_game.new.shelf c.run_game.new.lines) c.args.steps.now c.run_game.new.steps
     c.in-Game.game.cycles c.in-Game.game.limits c.in-Game.game.word.now own.0 own.1 own.2 c.run_game.ensures.steps
 
 pub returns-in-Trial-clause-ran : goal.returns-in-Trial-clause-ran
@@ -45,11 +47,23 @@ returns-in-Calc-clause-ran g c =
     (desk c.args.shelf.now c.args.lines.now c.run_calc.new.out) c.in-Calc.line.parts c.in-Calc.line.expression.now own.0 own.1
     (record { written = c.run_calc.ensures.answered; shelf_unread = refl; lines_unread = refl })
 
+pub returns-in-Gtp-clause-steps : goal.returns-in-Gtp-clause-steps
+returns-in-Gtp-clause-steps g c =
+    let own = subst (IsAsked (viewed c.args.job.now)) c.in-Gtp.is c.asked.ensures in
+    engine_steps (viewed c.args.job.now) (input_of g.H.Shelf g.S.Source c.args.shelf.now c.args.lines.now) (input_of g.H.Shelf g.S.Source c.run_gtp.new.shelf c.run_gtp.new.lines) c.args.steps.now
+    c.run_gtp.new.steps c.in-Gtp.limits own.0 own.1 own.2 c.run_gtp.ensures.steps
+
 pub returns-in-Gtp-clause-ran : goal.returns-in-Gtp-clause-ran
 returns-in-Gtp-clause-ran g c =
     let own = subst (IsAsked (viewed c.args.job.now)) c.in-Gtp.is c.asked.ensures in
     engine_runs (outside g.H.Shelf g.S.Source g.K.Sink) (viewed c.args.job.now) (desk c.args.shelf.now c.args.lines.now c.args.out.now) c.run_gtp.result
     (desk c.run_gtp.new.shelf c.run_gtp.new.lines c.run_gtp.new.out) c.in-Gtp.limits own.0 own.1 own.2 c.run_gtp.ensures.ran
+
+pub returns-in-BoardGtp-clause-steps : goal.returns-in-BoardGtp-clause-steps
+returns-in-BoardGtp-clause-steps g c =
+    let own = subst (IsAsked (viewed c.args.job.now)) c.in-BoardGtp.is c.asked.ensures in
+    board_steps (viewed c.args.job.now) (input_of g.H.Shelf g.S.Source c.args.shelf.now c.args.lines.now) (input_of g.H.Shelf g.S.Source c.run_board.new.shelf c.run_board.new.lines) c.args.steps.now
+    c.run_board.new.steps c.in-BoardGtp.limits own.0 own.1 own.2 c.run_board.ensures.steps
 
 pub returns-in-BoardGtp-clause-ran : goal.returns-in-BoardGtp-clause-ran
 returns-in-BoardGtp-clause-ran g c =

@@ -1,7 +1,8 @@
-use Rattle.std.proofs.Common.{length, map, inl, refl, sym, ap, ◌∙◌, subst}
-use Rattle.gtp_words.proofs.AskingLemmas.{asked_err, asked_wider, words_name}
+use Rattle.std.proofs.Common.{◌≡◌, ℕ, List, length, map, inl, inr, refl, sym, ap, ◌∙◌, subst, Option, None}
+use Rattle.gtp_words.proofs.AskingLemmas.{asked_err, asked_wider, line_asks}
 use Rattle.board_session.specs.Asking.{AskedNames, LineNames}
 use Rattle.board_session.specs.Orders.{Asks}
+use Rattle.board_session.specs.Steps.{AskToSolve}
 use Rattle.board_session.specs.inner.Viewed.{asked_of}
 use Rattle.gtp_words.specs.Words.{AreWords, HasId}
 use Rattle.board_session.proofs.AnswerLemmas.{answered_if_ok, grown_if_ok, some_words}
@@ -36,12 +37,19 @@ pub returns-clause-later_loads : goal.returns-clause-later_loads
 returns-clause-later_loads g c = c.meet-answer.ensures.later
 
 pub returns-clause-steps : goal.returns-clause-steps
-returns-clause-steps g c = c.meet-answer.ensures.steps
+returns-clause-steps g c =
+    let words = map (λ w. w.now) c.in_ok-words.words.items in let rest = map (λ w. w.now) c.take_id-headed.result.rest.now in let id = c.take_id-headed.result.id.now in
+    let asks = line_asks Asks ⊥ AskToSolve c.args.line.now id words rest (asked_of c.read_asked.result)
+    (subst (λ t. AreWords t words) (c.deref.ensures.value ∙ c.in_ok-text.ensures) c.in_ok-words.ensures)
+    (some_words (λ w. w.now) c.in_ok-words.words.items c.in_ok-words.words.len c.is_empty.result c.if-is_empty.false c.is_empty.ensures (ap length (sym c.deref-2.ensures.value) ∙ c.deref-2.ensures.len))
+    (subst (λ ws. HasId (map (λ w. w.now) ws) id rest) c.deref-2.ensures.value c.take_id-headed.ensures)
+    c.read_asked.ensures in
+    elim c.meet-answer.ensures.steps [ inl none ↦ inl none | inr h ↦ inr (asks h.0, h.1) ]
 
 pub returns-clause-asked : goal.returns-clause-asked
 returns-clause-asked g c =
     let words = map (λ w. w.now) c.in_ok-words.words.items in let rest = map (λ w. w.now) c.take_id-headed.result.rest.now in let id = c.take_id-headed.result.id.now in
-    let named = words_name Asks AskedNames c.args.line.now id words rest (asked_of c.read_asked.result)
+    let named = λ (name : Option (List ℕ)). line_asks Asks (name ≡ None) (λ asked. AskedNames asked name) c.args.line.now id words rest (asked_of c.read_asked.result)
     (subst (λ t. AreWords t words) (c.deref.ensures.value ∙ c.in_ok-text.ensures) c.in_ok-words.ensures)
     (some_words (λ w. w.now) c.in_ok-words.words.items c.in_ok-words.words.len c.is_empty.result c.if-is_empty.false c.is_empty.ensures (ap length (sym c.deref-2.ensures.value) ∙ c.deref-2.ensures.len))
     (subst (λ ws. HasId (map (λ w. w.now) ws) id rest) c.deref-2.ensures.value c.take_id-headed.ensures)

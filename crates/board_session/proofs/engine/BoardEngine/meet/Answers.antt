@@ -1,7 +1,8 @@
-use Rattle.std.proofs.Common.{◌≡◌, ◌⊎◌, ap, inl, refl, subst, sym, None}
+use Rattle.std.proofs.Common.{◌≡◌, ◌⊎◌, ap, inl, inr, refl, subst, sym, None}
 use Rattle.gtp_words.specs.Asking.{AsksNamed}
 use Rattle.gtp_words.proofs.AskingLemmas.{asked_err}
 use Rattle.board_session.specs.Asking.{AskedNames}
+use Rattle.board_session.specs.Steps.{AskToSolve}
 use Rattle.board_session.specs.inner.Obeying.{IsMet}
 use Rattle.board_session.specs.inner.Viewed.{asked_of}
 use Rattle.board_session.proofs.AnswerLemmas.{met_misfit, met_unknown}
@@ -24,7 +25,8 @@ pub returns-in_ok-reply-in-Something-clause-later : goal.returns-in_ok-reply-in-
 returns-in_ok-reply-in-Something-clause-later g c = c.obey.ensures.later
 
 pub returns-in_ok-reply-in-Something-clause-steps : goal.returns-in_ok-reply-in-Something-clause-steps
-returns-in_ok-reply-in-Something-clause-steps g c = c.obey.ensures.steps
+returns-in_ok-reply-in-Something-clause-steps g c =
+    elim c.obey.ensures.steps [ inl none ↦ inl none | inr solves ↦ inr (subst AskToSolve (sym (ap asked_of c.in-Something.is)) solves.0, solves.1) ]
 
 pub returns-in_err-reply-in-Something-clause-same_files : goal.returns-in_err-reply-in-Something-clause-same_files
 returns-in_err-reply-in-Something-clause-same_files g c = c.obey.ensures.same_files
@@ -33,7 +35,8 @@ pub returns-in_err-reply-in-Something-clause-later : goal.returns-in_err-reply-i
 returns-in_err-reply-in-Something-clause-later g c = c.obey.ensures.later
 
 pub returns-in_err-reply-in-Something-clause-steps : goal.returns-in_err-reply-in-Something-clause-steps
-returns-in_err-reply-in-Something-clause-steps g c = c.obey.ensures.steps
+returns-in_err-reply-in-Something-clause-steps g c =
+    elim c.obey.ensures.steps [ inl none ↦ inl none | inr solves ↦ inr (subst AskToSolve (sym (ap asked_of c.in-Something.is)) solves.0, solves.1) ]
 
 pub returns-in_ok-reply-in-Something-clause-met : goal.returns-in_ok-reply-in-Something-clause-met
 returns-in_ok-reply-in-Something-clause-met g c =

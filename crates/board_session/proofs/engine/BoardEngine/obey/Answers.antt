@@ -1,13 +1,15 @@
-use Rattle.std.proofs.Common.{ap, refl, rules, arith, subst, sym, None, IfOk}
+use Rattle.std.proofs.Common.{ap, inl, refl, rules, arith, subst, sym, None, IfOk}
 use Rattle.gtp_words.specs.Asking.{AsksBy}
 use Rattle.gtp_words.proofs.AskingLemmas.{asked_none}
 use Rattle.board_session.specs.Asking.{OrderNames}
+use Rattle.board_session.specs.Orders.BoardOrder.{analyse, genmove, reg_genmove}
 use Rattle.board_session.specs.inner.Viewed.{order_of}
 use Rattle.board_session.specs.inner.Analysing.{IsReported}
 use Rattle.board_session.specs.inner.Doing.{IsGenerated, IsSuggested}
 use Rattle.board_session.specs.inner.Obeying.{IsObeyed}
 use Rattle.board_session.proofs.AnswerLemmas.{generated_obeyed, plain_obeyed, plain_same, reported_obeyed, suggested_obeyed}
 use Rattle.board_session.proofs.AskingLemmas.{plain_names}
+use Rattle.board_session.proofs.StepLemmas.{solver_steps}
 use Rattle.board_session.proofs.engine.BoardEngine.obey.Goals as goal
 
 pub returns-in_default : goal.returns-in_default
@@ -19,7 +21,7 @@ returns-in_default g c =
       same = plain_same inside.limits inside.loads inside.session u c.args.self.now is c.obey.result c.obey.ensures.same;
       same_files = refl;
       later = omega arith;
-      steps = λ regions are. omega arith;
+      steps = inl refl;
     }
 
 pub returns-in-GenMove-clause-obeyed : goal.returns-in-GenMove-clause-obeyed
@@ -76,3 +78,21 @@ returns-in-Analyse-clause-asked g c =
 pub returns-in-LoadSgf-clause-asked : goal.returns-in-LoadSgf-clause-asked
 returns-in-LoadSgf-clause-asked g c =
     subst (λ o. AsksBy g.H.Shelf.asks (OrderNames o) c.args.shelf.now c.load_file.new.shelf c.load_file.result) (sym (ap order_of c.in-LoadSgf.is)) c.load_file.ensures.asked
+
+pub returns-in-GenMove-clause-steps : goal.returns-in-GenMove-clause-steps
+returns-in-GenMove-clause-steps g c =
+    let inside = c.self.inside in
+    solver_steps inside.limits inside.loads inside.session c.args.self.now c.self.view_is c.of_game-limits.result c.of_game-limits.ensures (order_of c.args.request) (genmove c.in-GenMove.colour) (ap order_of c.in-GenMove.is) tt
+    c.args.steps.now c.generate.new.steps c.generate.ensures.steps
+
+pub returns-in-RegGenMove-clause-steps : goal.returns-in-RegGenMove-clause-steps
+returns-in-RegGenMove-clause-steps g c =
+    let inside = c.self-in-RegGenMove.inside in
+    solver_steps inside.limits inside.loads inside.session c.args.self.now c.self-in-RegGenMove.view_is c.of_game-limits-in-RegGenMove.result c.of_game-limits-in-RegGenMove.ensures (order_of c.args.request) (reg_genmove c.in-RegGenMove.colour) (ap order_of c.in-RegGenMove.is) tt
+    c.args.steps.now c.suggest.new.steps c.suggest.ensures.steps
+
+pub returns-in-Analyse-clause-steps : goal.returns-in-Analyse-clause-steps
+returns-in-Analyse-clause-steps g c =
+    let inside = c.self-in-Analyse.inside in
+    solver_steps inside.limits inside.loads inside.session c.args.self.now c.self-in-Analyse.view_is c.of_game-limits-in-Analyse.result c.of_game-limits-in-Analyse.ensures (order_of c.args.request) (analyse c.in-Analyse.analysis) (ap order_of c.in-Analyse.is) tt
+    c.args.steps.now c.report.new.steps c.report.ensures.steps

@@ -1,9 +1,10 @@
-use Rattle.std.proofs.Common.{length, map, inl, inr, sym, ap, ◌∙◌, subst, arith, refl}
+use Rattle.std.proofs.Common.{◌≡◌, ℕ, List, length, map, inl, inr, sym, ap, ◌∙◌, subst, refl, Option, None}
 use Rattle.gtp_engine.specs.inner.Viewed.{asked_of}
 use Rattle.gtp_words.specs.Words.{AreWords, HasId}
-use Rattle.gtp_words.proofs.AskingLemmas.{asked_err, words_name}
+use Rattle.gtp_words.proofs.AskingLemmas.{asked_err, line_asks}
 use Rattle.gtp_engine.specs.Asking.{AskedNames, LineNames}
 use Rattle.gtp_engine.specs.Request.{Asks}
+use Rattle.gtp_engine.specs.Steps.{AskForTurn}
 use Rattle.gtp_engine.proofs.AnswerLemmas.{answered_words, some_words}
 use Rattle.gtp_engine.proofs.KomiLemmas.{asks_in_range}
 use Rattle.gtp_engine.proofs.RoomLemmas.{reply_room, same_room}
@@ -31,25 +32,16 @@ returns-clause-room g c =
 pub returns-in_err-text-clause-room : goal.returns-in_err-text-clause-room
 returns-in_err-text-clause-room g c = same_room c.args.self.now.table c.args.self.now.table refl
 
-pub returns-in_err-text-clause-steps : goal.returns-in_err-text-clause-steps
-returns-in_err-text-clause-steps g c regions are = omega arith
-
 pub returns-in_err-words-clause-room : goal.returns-in_err-words-clause-room
 returns-in_err-words-clause-room g c = same_room c.args.self.now.table c.args.self.now.table refl
-
-pub returns-in_err-words-clause-steps : goal.returns-in_err-words-clause-steps
-returns-in_err-words-clause-steps g c regions are = omega arith
 
 pub returns-then-is_empty-clause-room : goal.returns-then-is_empty-clause-room
 returns-then-is_empty-clause-room g c = same_room c.args.self.now.table c.args.self.now.table refl
 
-pub returns-then-is_empty-clause-steps : goal.returns-then-is_empty-clause-steps
-returns-then-is_empty-clause-steps g c regions are = omega arith
-
 pub returns-clause-asked : goal.returns-clause-asked
 returns-clause-asked g c =
     let words = map (λ w. w.now) c.in_ok-words.words.items in let rest = map (λ w. w.now) c.take_id-headed.result.rest.now in let id = c.take_id-headed.result.id.now in
-    let named = words_name Asks AskedNames c.args.line.now id words rest (asked_of c.read_asked.result)
+    let named = λ (name : Option (List ℕ)). line_asks Asks (name ≡ None) (λ asked. AskedNames asked name) c.args.line.now id words rest (asked_of c.read_asked.result)
     (subst (λ t. AreWords t words) (c.deref.ensures.value ∙ c.in_ok-text.ensures) c.in_ok-words.ensures)
     (some_words (λ w. w.now) c.in_ok-words.words.items c.in_ok-words.words.len c.is_empty.result c.if-is_empty.false c.is_empty.ensures (ap length (sym c.deref-2.ensures.value) ∙ c.deref-2.ensures.len))
     (subst (λ ws. HasId (map (λ w. w.now) ws) id rest) c.deref-2.ensures.value c.take_id-headed.ensures)
@@ -59,13 +51,33 @@ returns-clause-asked g c =
 pub returns-in_err-answer-clause-asked : goal.returns-in_err-answer-clause-asked
 returns-in_err-answer-clause-asked g c =
     let words = map (λ w. w.now) c.in_ok-words.words.items in let rest = map (λ w. w.now) c.take_id-headed.result.rest.now in let id = c.take_id-headed.result.id.now in
-    let named = words_name Asks AskedNames c.args.line.now id words rest (asked_of c.read_asked.result)
+    let named = λ (name : Option (List ℕ)). line_asks Asks (name ≡ None) (λ asked. AskedNames asked name) c.args.line.now id words rest (asked_of c.read_asked.result)
     (subst (λ t. AreWords t words) (c.deref.ensures.value ∙ c.in_ok-text.ensures) c.in_ok-words.ensures)
     (some_words (λ w. w.now) c.in_ok-words.words.items c.in_ok-words.words.len c.is_empty.result c.if-is_empty.false c.is_empty.ensures (ap length (sym c.deref-2.ensures.value) ∙ c.deref-2.ensures.len))
     (subst (λ ws. HasId (map (λ w. w.now) ws) id rest) c.deref-2.ensures.value c.take_id-headed.ensures)
     c.read_asked.ensures in
     asked_err g.H.Shelf.asks (LineNames c.args.line.now) c.args.shelf.now c.from_residual-in_err-answer.result c.meet.new.shelf c.from_residual-in_err-answer.ensures.0
     (elim c.in_err-answer.ensures.asked [ inl none ↦ inl none | inr h ↦ inr (h.0, named h.0 h.1, h.2) ])
+
+pub returns-clause-steps : goal.returns-clause-steps
+returns-clause-steps g c =
+    let words = map (λ w. w.now) c.in_ok-words.words.items in let rest = map (λ w. w.now) c.take_id-headed.result.rest.now in let id = c.take_id-headed.result.id.now in
+    let asks = line_asks Asks ⊥ AskForTurn c.args.line.now id words rest (asked_of c.read_asked.result)
+    (subst (λ t. AreWords t words) (c.deref.ensures.value ∙ c.in_ok-text.ensures) c.in_ok-words.ensures)
+    (some_words (λ w. w.now) c.in_ok-words.words.items c.in_ok-words.words.len c.is_empty.result c.if-is_empty.false c.is_empty.ensures (ap length (sym c.deref-2.ensures.value) ∙ c.deref-2.ensures.len))
+    (subst (λ ws. HasId (map (λ w. w.now) ws) id rest) c.deref-2.ensures.value c.take_id-headed.ensures)
+    c.read_asked.ensures in
+    elim c.meet.ensures.steps [ inl none ↦ inl none | inr h ↦ inr (asks h.0, h.1) ]
+
+pub returns-in_err-answer-clause-steps : goal.returns-in_err-answer-clause-steps
+returns-in_err-answer-clause-steps g c =
+    let words = map (λ w. w.now) c.in_ok-words.words.items in let rest = map (λ w. w.now) c.take_id-headed.result.rest.now in let id = c.take_id-headed.result.id.now in
+    let asks = line_asks Asks ⊥ AskForTurn c.args.line.now id words rest (asked_of c.read_asked.result)
+    (subst (λ t. AreWords t words) (c.deref.ensures.value ∙ c.in_ok-text.ensures) c.in_ok-words.ensures)
+    (some_words (λ w. w.now) c.in_ok-words.words.items c.in_ok-words.words.len c.is_empty.result c.if-is_empty.false c.is_empty.ensures (ap length (sym c.deref-2.ensures.value) ∙ c.deref-2.ensures.len))
+    (subst (λ ws. HasId (map (λ w. w.now) ws) id rest) c.deref-2.ensures.value c.take_id-headed.ensures)
+    c.read_asked.ensures in
+    elim c.meet.ensures.steps [ inl none ↦ inl none | inr h ↦ inr (asks h.0, h.1) ]
 
 pub returns-in_err-text-clause-asked : goal.returns-in_err-text-clause-asked
 returns-in_err-text-clause-asked g c =

@@ -1,9 +1,10 @@
-use Rattle.std.proofs.Common.{◌≡◌, ◌⊎◌, ◌∙◌, ap, refl, subst, sym, None}
+use Rattle.std.proofs.Common.{◌≡◌, ◌⊎◌, ◌∙◌, ap, inl, inr, refl, subst, sym, None}
 use Rattle.std.proofs.lemmas.Result.{IfOk-weaker}
 use Rattle.gtp_words.specs.Asking.{AsksNamed}
 use Rattle.gtp_words.proofs.AskingLemmas.{asked_err, asked_none}
 use Rattle.gtp_engine.specs.Asking.{AskedNames}
 use Rattle.gtp_engine.specs.Session.{is_last}
+use Rattle.gtp_engine.specs.Steps.{AskForTurn}
 use Rattle.gtp_engine.specs.inner.Written.{IsMet}
 use Rattle.gtp_engine.specs.inner.Viewed.{asked_of}
 use Rattle.gtp_engine.proofs.AnswerLemmas.{met_misfit, met_unknown}
@@ -47,3 +48,11 @@ returns-in_err-reply-in-Something-clause-asked g c =
     let s = c.args.shelf.now in let t = c.obey.new.shelf in
     asked_err g.H.Shelf.asks (AskedNames (asked_of c.args.asked)) s c.from_residual.result t c.from_residual.ensures.0
     (subst (λ a. (t ≡ s) ⊎ AsksNamed g.H.Shelf.asks (AskedNames a) s t) (sym (ap asked_of c.in-Something.is)) c.in_err-reply-in-Something.ensures.asked)
+
+pub returns-in_ok-reply-in-Something-clause-steps : goal.returns-in_ok-reply-in-Something-clause-steps
+returns-in_ok-reply-in-Something-clause-steps g c =
+    elim c.obey.ensures.steps [ inl none ↦ inl none | inr opens ↦ inr (subst AskForTurn (sym (ap asked_of c.in-Something.is)) opens.0, opens.1) ]
+
+pub returns-in_err-reply-in-Something-clause-steps : goal.returns-in_err-reply-in-Something-clause-steps
+returns-in_err-reply-in-Something-clause-steps g c =
+    elim c.obey.ensures.steps [ inl none ↦ inl none | inr opens ↦ inr (subst AskForTurn (sym (ap asked_of c.in-Something.is)) opens.0, opens.1) ]

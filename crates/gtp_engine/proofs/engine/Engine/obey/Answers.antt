@@ -1,9 +1,10 @@
-use Rattle.std.proofs.Common.{IfOk, arith, ap, refl, rules, subst, sym, None}
+use Rattle.std.proofs.Common.{IfOk, arith, ap, inl, inr, refl, rules, subst, sym, None}
 use Rattle.gtp_words.specs.Asking.{AsksBy}
 use Rattle.gtp_words.proofs.AskingLemmas.{asked_none}
 use Rattle.gtp_engine.specs.Asking.{OrderNames}
 use Rattle.gtp_engine.specs.declared.playing.Action.TheVariants.{Generate, Play}
 use Rattle.gtp_engine.specs.Request.Order.{genmove, play}
+use Rattle.gtp_engine.specs.Steps.{IsTurn}
 use Rattle.gtp_engine.specs.inner.Viewed.{order_of}
 use Rattle.gtp_engine.specs.inner.Written.{IsObeyed}
 use Rattle.gtp_engine.proofs.AnswerLemmas.{obeyed_turn, plain_obeyed}
@@ -18,7 +19,7 @@ returns-in_default g c =
       same = c.obey_plain.ensures.same;
       same_files = refl;
       later = omega arith;
-      steps = λ regions are. omega arith;
+      steps = inl refl;
     }
 
 pub returns-in-GenMove-clause-obeyed : goal.returns-in-GenMove-clause-obeyed
@@ -49,3 +50,11 @@ returns-in-Play-clause-asked g c =
 pub returns-in-LoadSgf-clause-asked : goal.returns-in-LoadSgf-clause-asked
 returns-in-LoadSgf-clause-asked g c =
     subst (λ o. AsksBy g.H.Shelf.asks (OrderNames o) c.args.shelf.now c.load_file.new.shelf c.load_file.result) (sym (ap order_of c.in-LoadSgf.is)) c.load_file.ensures.asked
+
+pub returns-in-GenMove-clause-steps : goal.returns-in-GenMove-clause-steps
+returns-in-GenMove-clause-steps g c =
+    elim c.take_turn-in-GenMove.ensures.steps [ inl none ↦ inl none | inr opens ↦ inr (subst IsTurn (sym (ap order_of c.in-GenMove.is)) tt, opens) ]
+
+pub returns-in-Play-clause-steps : goal.returns-in-Play-clause-steps
+returns-in-Play-clause-steps g c =
+    elim c.take_turn.ensures.steps [ inl none ↦ inl none | inr opens ↦ inr (subst IsTurn (sym (ap order_of c.in-Play.is)) tt, opens) ]
