@@ -11,7 +11,7 @@ ghost use Rattle.board_gen.specs.Trial.{IsDrawnBy, IsOwner, IsTrialBoard, IsTria
 
 use crate::corridors::{COLUMNS, Corridor, corridors_of, is_in_corridor};
 use go_grid::{Board, Cell, Colour, MOST_POINTS, Point, Size};
-use sgf_go::Setup;
+use go_play::Setup;
 use std::alloc::{AllocError, Global};
 
 /// The last row of each board, with X for black and O for white.
@@ -80,11 +80,13 @@ pub fn make(alloc: Global, number: u32) -> Result<Setup, AllocError>
     ensures plain { IfOk result (λ setup. (setup.side ≡ Black) × (setup.komi_halves ≡ pos 0)
         × (setup.black_prisoners ≡ 0) × (setup.white_prisoners ≡ 0)) }
 {
-    Ok(Setup {
-        board: board_of(alloc, number)?,
-        black_prisoners: 0,
-        white_prisoners: 0,
-        komi_halves: 0,
-        side: Colour::Black,
-    })
+    let board = board_of(alloc, number)?;
+    match Setup::new(board, 0, 0, 0, Colour::Black) {
+        Ok(setup) => Ok(setup),
+        Err(error) => match error.of_board() {
+            // Each stone of the board has a liberty.
+            Ok(_) => unreachable!(),
+            Err(cause) => Err(cause),
+        },
+    }
 }

@@ -1,5 +1,5 @@
 -- What the replies to analyses tell.
-use Rattle.std.proofs.Common.{◌≡◌, ◌⊎◌, ◌<◌, ℕ, ℤ, Bool, List, All, length, get_or, Ok, Err, Result, IfOk, inl, inr, refl, sym, ap, ◌∙◌, subst}
+use Rattle.std.proofs.Common.{◌≡◌, ◌⊎◌, ◌<◌, ℕ, ℤ, Bool, true, false, List, All, length, get_or, Ok, Err, Result, IfOk, inl, inr, refl, sym, ap, ◌∙◌, subst}
 use Rattle.std.proofs.lemmas.List.Elements.{Contains-get_or}
 use Rattle.go_grid.specs.Board.{Board}
 use Rattle.go_grid.specs.Chain.{IsFirstUnsettled, IsSettled}
@@ -10,7 +10,7 @@ use Rattle.go_grid.specs.declared.grid.Colour.{Colour}
 use Rattle.go_grid.specs.declared.grid.Colour.TheVariants.{Black, White}
 use Rattle.gtp_words.specs.Vertices.{vertex_text}
 use Rattle.fault_words.specs.FaultWords.{AreFaultWords}
-use Rattle.sgf_go.specs.declared.settings.Setup.{Setup}
+use Rattle.go_play.specs.Setup.{Setup}
 use Rattle.endgame_solver.specs.declared.faults.SolveError.{SolveError}
 use Rattle.endgame_solver.specs.declared.limits.Limits.{Limits}
 use Rattle.endgame_solver.specs.Solved.{Begun, Solved}
@@ -51,10 +51,19 @@ fault_told limits topic setup fault words id (Ok reply) settled begun are says =
 fault_told limits topic setup fault words id (Err e) settled begun are h = tt
 
 -- the words on a board that isn't settled are told
-pub unsettled_told : {E : Type 0} (limits : Limits) (topic : Topic) (setup : Setup) (p : ℕ) (words id : List ℕ) (result : Result (List ℕ) E) → IsFirstUnsettled setup.board p
-    → words ≡ unsettled_words setup.board p → IfOk result (λ reply. reply ≡ reply_text id (finding_said (none_found topic words))) → IfOk result (RepliesIn limits topic setup id)
-unsettled_told limits topic setup p words id (Ok reply) first is says = (none_found topic words, inr (words, inl (p, first, is), refl), says)
-unsettled_told limits topic setup p words id (Err e) first is h = tt
+pub unsettled_told : {E : Type 0} (cycles : Bool) (limits : Limits) (about : Topic) (setup : Setup) (p : ℕ) (words id : List ℕ) (result : Result (List ℕ) E)
+    → IsFirstUnsettled setup.board p → words ≡ unsettled_words setup.board p → IfOk result (λ reply. reply ≡ reply_text id (finding_said (none_found about words)))
+    → IfOk result (RepliesBy (cycle_topic cycles about) limits about setup id)
+unsettled_told cycles limits about setup p words id (Err e) first is h = tt
+unsettled_told {E} cycles limits about setup p words id (Ok reply) first is says = (none_found about words, found_by cycles about, says)
+  where
+    found_by : (b : Bool) (t : Topic) → FindsBy (cycle_topic b t) limits t setup (none_found t words)
+    found_by false t = inr (words, inl (p, first, is), refl)
+    found_by true topic.Best = inr (words, inl (p, first, is), refl)
+    found_by true topic.Margin = inr (words, inl (p, first, is), refl)
+    found_by true topic.Moves = inr (words, inl (p, first, is), refl)
+    found_by true topic.Line = inr (words, inl (p, first, is), refl)
+    found_by true topic.Score = inr (words, inl (p, first, is), refl)
 
 -- the points of either colour's set
 of_one : {X Y : Type 0} (P : Colour → ℕ → Type 0) (p : ℕ) → (P Black p → X) → (P White p → Y) → (c : Colour) → P c p → X ⊎ Y

@@ -28,7 +28,7 @@ use Rattle.board_session.proofs.OrderLemmas.{followed_grown, order_grown}
 
 -- what was loaded can be taken up
 pub loaded_fits : (told : Told) (settings : Settings) (before now : ℕ) (loading : Loading) → IsLoaded told settings before now loading → CanTakeUp loading
-loaded_fits told settings before now (Position setup) l = (l.1, l.2)
+loaded_fits told settings before now (Position setup) l = l.1
 loaded_fits told settings before now Nothing l = tt
 loaded_fits told settings before now Failed l = tt
 

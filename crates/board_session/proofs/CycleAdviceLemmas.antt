@@ -4,7 +4,7 @@ use Rattle.go_grid.specs.Chain.{IsFirstUnsettled, IsSettled}
 use Rattle.go_grid.specs.Region.{Region}
 use Rattle.go_grid.specs.declared.grid.Colour.{Colour}
 use Rattle.go_grid.specs.declared.grid.Colour.TheVariants.{Black, White}
-use Rattle.sgf_go.specs.declared.settings.Setup.{Setup}
+use Rattle.go_play.specs.Setup.{Setup}
 use Rattle.whole_rules.specs.declared.states.Move.{Move}
 use Rattle.whole_rules.specs.declared.states.Move.TheVariants as move
 use Rattle.whole_rules.specs.WholeGame.{IsLegal, Whole}

@@ -1,8 +1,8 @@
 -- What the replies to analyses tell where kos can arise.
 use Rattle.std.proofs.Common.{◌≡◌, ℕ, List, Ok, Err, Result, IfOk, inl, inr, refl}
-use Rattle.go_grid.specs.Chain.{IsFirstUnsettled, IsSettled}
+use Rattle.go_grid.specs.Chain.{IsSettled}
 use Rattle.gtp_words.specs.Vertices.{vertex_text}
-use Rattle.sgf_go.specs.declared.settings.Setup.{Setup}
+use Rattle.go_play.specs.Setup.{Setup}
 use Rattle.endgame_solver.specs.declared.limits.Limits.{Limits}
 use Rattle.endgame_solver.specs.Solved.{Solved}
 use Rattle.cycle_solver.specs.Begun.{Begun}
@@ -13,7 +13,6 @@ use Rattle.engine_player.specs.Played.{BeginsPlay}
 use Rattle.board_session.specs.declared.topic.CycleTopic.{CycleTopic}
 use Rattle.board_session.specs.Analysing.{gameless}
 use Rattle.board_session.specs.Cycles.{AreCycleFaultWords}
-use Rattle.board_session.specs.Generating.{unsettled_words}
 use Rattle.board_session.specs.Session.{reply_text, unsolved}
 use Rattle.board_session.specs.inner.Analysing.{RepliesInWithCycles, RepliesOnWithCycles}
 
@@ -40,9 +39,3 @@ module _ {E : Type 0} (limits : Limits) (topic : CycleTopic) (setup : Setup) (id
   cycle_fault_told fault words (Ok reply) settled begun are says =
       (gameless words, inr (words, inr (settled, inl (fault, begins_play setup limits MOST_CAPTURES fault begun, are)), refl), says)
   cycle_fault_told fault words (Err e) settled begun are h = tt
-
-  -- the words on a board that isn't settled are told
-  pub cycles_unsettled_told : (p : ℕ) (words : List ℕ) (result : Result (List ℕ) E) → IsFirstUnsettled setup.board p → words ≡ unsettled_words setup.board p
-      → IfOk result (λ reply. reply ≡ reply_text id (unsolved words)) → IfOk result (RepliesInWithCycles limits topic setup id)
-  cycles_unsettled_told p words (Ok reply) first is says = (gameless words, inr (words, inl (p, first, is), refl), says)
-  cycles_unsettled_told p words (Err e) first is h = tt

@@ -8,7 +8,7 @@ use Rattle.go_grid.specs.declared.grid.Colour.TheVariants.{Black, White}
 use Rattle.go_play.specs.declared.placements.PlaceError.TheVariants.{Occupied, Suicide}
 use Rattle.go_play.specs.Place.{IsNumberTaken, IsPlaced}
 use Rattle.go_play.proofs.BoardPlayLemmas.{suicide_not_placed}
-use Rattle.sgf_go.specs.declared.settings.Setup.{Setup}
+use Rattle.go_play.specs.Setup.{Setup}
 use Rattle.whole_rules.specs.declared.money.Token.{Token}
 use Rattle.whole_rules.specs.declared.money.Token.TheVariants.{Nobody}
 use Rattle.whole_rules.specs.declared.states.Move.{Move}

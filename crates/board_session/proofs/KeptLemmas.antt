@@ -3,8 +3,7 @@ use Rattle.std.proofs.Common.{◌≡◌, ◌≢◌, ◌≤◌, ◌<◌, ◌+◌,
 use Rattle.std.specs.List.{All}
 use Rattle.std.proofs.lemmas.Int.{fits_signed_from_abs, ints, to_z-of_z}
 use Rattle.sgf_go.specs.Komi.{IsInRange}
-use Rattle.sgf_go.specs.declared.settings.Setup.{Setup}
-use Rattle.sgf_go.specs.Position.{HasFewPrisoners, IsFit as CanBeOpened}
+use Rattle.go_play.specs.Setup.{HasFewPrisoners, Setup}
 use Rattle.std.proofs.lemmas.Bool.{cases_lt}
 use Rattle.std.proofs.lemmas.List.{get_or_push, length_push, take_all, take_more, take-append-le}
 use Rattle.std.proofs.lemmas.List.Elements.{All-get_or, All-push, All-take}
@@ -117,10 +116,10 @@ same_komi halves modest = to_z-of_z w64 halves (fits_signed_from_abs w64 halves 
 pub modest_komi : (halves : ℤ) → IsInRange halves → IsModest halves
 modest_komi halves in_range = omega (arith, ints, in_range.0, in_range.1)
 
--- a position that can be opened can be taken up
-pub fits_start : (setup : Setup) → CanBeOpened setup → HasFewPrisoners setup → IsFit setup.komi_halves (taken_up setup.board setup.black_prisoners setup.white_prisoners) []
-fits_start setup fit few = record {
-  komi = fit.komi;
+-- a position with few prisoners can be taken up
+pub fits_start : (setup : Setup) → IsModest setup.komi_halves → HasFewPrisoners setup → IsFit setup.komi_halves (taken_up setup.board setup.black_prisoners setup.white_prisoners) []
+fits_start setup modest few = record {
+  komi = modest;
   start = λ c. small c;
   positions = λ n le. let start = taken_up setup.board setup.black_prisoners setup.white_prisoners in let none_left : 0 ≡ n = omega (arith, le) in
       subst (λ k. IsFitAfter start k (after_moves start (take k []))) none_left (record {

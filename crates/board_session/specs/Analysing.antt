@@ -9,7 +9,7 @@ use Rattle.go_grid.specs.Region.{Region}
 use Rattle.go_grid.specs.declared.grid.Colour.{Colour}
 use Rattle.benson_life.specs.Life.{IsAlive, IsCounted}
 use Rattle.gtp_words.specs.Vertices.{vertex_text}
-use Rattle.sgf_go.specs.declared.settings.Setup.{Setup}
+use Rattle.go_play.specs.Setup.{Setup}
 use Rattle.whole_rules.specs.WholeGame.{Whole}
 use Rattle.endgame_solver.specs.declared.limits.Limits.{Limits}
 use Rattle.endgame_solver.specs.Solved.{IsPlayable}

@@ -7,7 +7,7 @@ use Rattle.go_grid.specs.declared.grid.Colour.{Colour}
 use Rattle.std.specs.Str.{IsUtf8}
 use Rattle.desk_io.specs.Files.{Files, told_file}
 use Rattle.sgf_go.specs.declared.settings.Settings.{Settings}
-use Rattle.sgf_go.specs.declared.settings.Setup.{Setup}
+use Rattle.go_play.specs.Setup.{Setup}
 use Rattle.endgame_solver.specs.declared.limits.Limits.{Limits}
 use Rattle.gtp_words.specs.Files.{GivesNone, GivesSetup, load_settings}
 use Rattle.gtp_words.specs.Loads.{Fate}

@@ -6,3 +6,4 @@ pub mod Obeying
 pub mod Viewed
 pub mod Analysing
 pub mod Naming
+pub mod Settling

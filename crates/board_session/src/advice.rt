@@ -1,15 +1,12 @@
 //! What a colour is told that asks for a move.
 
-ghost use Rattle.std.specs.Prelude.{◌≡◌, ◌≤◌, ◌<◌, ◌+◌, ◌↔◌, ◌^◌, true, List, length, IfOk, string_bytes};
-ghost use Rattle.go_grid.specs.Chain.{IsSettled};
+ghost use Rattle.std.specs.Prelude.{◌≡◌, ◌≤◌, ◌<◌, ◌+◌, ◌↔◌, true, List, length, IfOk, string_bytes};
 ghost use Rattle.go_grid.specs.Region.{Region};
 ghost use Rattle.region_cut.specs.Cut.{AreRegionsOfPlay};
-ghost use Rattle.sgf_go.specs.Position.{IsFit};
 ghost use Rattle.whole_rules.specs.Opening.{MayTax};
 ghost use Rattle.endgame_solver.specs.Faults.{most_steps};
 ghost use Rattle.board_session.specs.Cycles.{AdvisesWith};
 ghost use Rattle.board_session.specs.Generating.{Advises, PayFor, after_passes, board_move, unsettled_words};
-ghost use Rattle.board_session.specs.Kept.{IsModest};
 ghost use Rattle.board_session.specs.inner.Generating.{IsTold, advice_of};
 
 use crate::cycle_advice::open_with_cycles;
@@ -88,7 +85,7 @@ fn tell(alloc: Global, game: &mut Solved, passes: Tally) -> Result<Advice, Alloc
     }
 }
 
-/// What the colour to move is told in a settled position.
+/// What the colour to move is told in a position.
 fn open<L: Ledger>(
     alloc: Global,
     setup: &Setup,
@@ -96,7 +93,6 @@ fn open<L: Ledger>(
     limits: &Limits,
     steps: &mut Steps<L>,
 ) -> Result<Advice, AllocError>
-    requires fit { IsFit setup.now }
     requires taxed { MayTax limits.now.tax setup.now.board }
     requires positions { limits.now.positions ≤ MOST_POSITIONS }
     ensures advised { IfOk result (λ advice. Advises limits.now setup.now passes
@@ -104,6 +100,7 @@ fn open<L: Ledger>(
     ensures steps { (regions : List Region) → AreRegionsOfPlay setup.now.board regions
         → steps.new ≤ steps.old + most_steps limits.now regions }
 {
+    let size = setup.board().size();
     match Solved::begin(alloc, setup, limits, steps) {
         Ok(mut game) => {
             let advice = tell(alloc, &mut game, passes);
@@ -111,7 +108,6 @@ fn open<L: Ledger>(
             advice
         }
         Err(fault) => {
-            let size = setup.board.size();
             let words = fault_words(alloc, Naming::Gtp, size, limits, fault)?;
             Ok(Advice::Unopened(words))
         }
@@ -127,9 +123,6 @@ pub(crate) fn advise<L: Ledger>(
     cycles: bool,
     steps: &mut Steps<L>,
 ) -> Result<Advice, AllocError>
-    requires black { setup.now.black_prisoners < 2 ^ 40 }
-    requires white { setup.now.white_prisoners < 2 ^ 40 }
-    requires komi { IsModest setup.now.komi_halves }
     requires taxed { MayTax limits.now.tax setup.now.board }
     requires positions { limits.now.positions ≤ MOST_POSITIONS }
     ensures advised { IfOk result (λ advice. AdvisesWith cycles limits.now setup.now passes
@@ -137,10 +130,6 @@ pub(crate) fn advise<L: Ledger>(
     ensures steps { (regions : List Region) → AreRegionsOfPlay setup.now.board regions
         → steps.new ≤ steps.old + most_steps limits.now regions }
 {
-    if let Some(point) = setup.board.unsettled()? {
-        let words = unsettled_words(alloc, &setup.board, point)?;
-        return Ok(Advice::Unopened(words));
-    }
     if cycles {
         return open_with_cycles(alloc, setup, passes, limits, steps);
     }

@@ -6,19 +6,18 @@ ghost use Rattle.go_grid.specs.Chain.{IsSettled};
 ghost use Rattle.go_grid.specs.Region.{Region};
 ghost use Rattle.gtp_words.specs.Vertices.{vertex_text};
 ghost use Rattle.region_cut.specs.Cut.{AreRegionsOfPlay};
-ghost use Rattle.sgf_go.specs.Position.{IsFit};
 ghost use Rattle.endgame_solver.specs.Faults.{most_steps};
 ghost use Rattle.report.specs.Score.{CanBeTold};
 ghost use Rattle.board_session.specs.Analysing.{IsShown, IsSpace, counted_setup, cycle_topic, found, gameless, none_found, score_finding, score_text};
-ghost use Rattle.board_session.specs.Kept.{IsModest};
 ghost use Rattle.board_session.specs.Session.{finding_said, reply_text};
 ghost use Rattle.board_session.specs.States.{present};
 ghost use Rattle.board_session.specs.inner.Analysing.{IsReported, RepliesBy, RepliesIn, RepliesOn, ShowsText};
+ghost use Rattle.board_session.specs.inner.Settling.{SettlesAs};
 
-use crate::advice::unsettled_words;
 use crate::cycle_analysis::reply_with_cycles;
 use crate::refusal::{accept, refuse_unscored, refuse_unsolved};
 use crate::session::BoardSession;
+use crate::settling::{Settling, settle};
 use crate::statuses::report_stones;
 use crate::topic::{Analysis, Topic, cycle_topic};
 use board_words::write_komi_word;
@@ -217,36 +216,6 @@ fn refuse_topic(
     }
 }
 
-/// The reply on a topic of a settled position.
-fn reply_settled<L: Ledger>(
-    alloc: Global,
-    id: &[u8],
-    topic: Topic,
-    setup: &Setup,
-    limits: &Limits,
-    steps: &mut Steps<L>,
-) -> Result<ItemList<u8>, AllocError>
-    requires fit { IsFit setup.now }
-    requires untaxed { limits.now.tax ≡ false }
-    requires positions { limits.now.positions ≤ MOST_POSITIONS }
-    ensures replied { IfOk result (RepliesIn limits.now topic setup.now id.now) }
-    ensures steps { (regions : List Region) → AreRegionsOfPlay setup.now.board regions
-        → steps.new ≤ steps.old + most_steps limits.now regions }
-{
-    match Solved::begin(alloc, setup, limits, steps) {
-        Ok(mut game) => {
-            let reply = reply_on(alloc, id, topic, &mut game, setup.komi_halves);
-            drop(game);
-            reply
-        }
-        Err(fault) => {
-            let size = setup.board.size();
-            let words = fault_words(alloc, Naming::Gtp, size, limits, fault)?;
-            refuse_topic(alloc, id, topic, &words)
-        }
-    }
-}
-
 /// The reply on a topic of a position.
 fn reply_in<L: Ledger>(
     alloc: Global,
@@ -256,20 +225,24 @@ fn reply_in<L: Ledger>(
     limits: &Limits,
     steps: &mut Steps<L>,
 ) -> Result<ItemList<u8>, AllocError>
-    requires black { setup.now.black_prisoners < 2 ^ 40 }
-    requires white { setup.now.white_prisoners < 2 ^ 40 }
-    requires komi { IsModest setup.now.komi_halves }
     requires untaxed { limits.now.tax ≡ false }
     requires positions { limits.now.positions ≤ MOST_POSITIONS }
     ensures replied { IfOk result (RepliesIn limits.now topic setup.now id.now) }
     ensures steps { (regions : List Region) → AreRegionsOfPlay setup.now.board regions
         → steps.new ≤ steps.old + most_steps limits.now regions }
 {
-    if let Some(point) = setup.board.unsettled()? {
-        let words = unsettled_words(alloc, &setup.board, point)?;
-        return refuse_topic(alloc, id, topic, &words);
+    let size = setup.board().size();
+    match Solved::begin(alloc, setup, limits, steps) {
+        Ok(mut game) => {
+            let reply = reply_on(alloc, id, topic, &mut game, setup.komi_halves());
+            drop(game);
+            reply
+        }
+        Err(fault) => {
+            let words = fault_words(alloc, Naming::Gtp, size, limits, fault)?;
+            refuse_topic(alloc, id, topic, &words)
+        }
     }
-    reply_settled(alloc, id, topic, setup, limits, steps)
 }
 
 /// The reply on a topic of a position, with cycles admitted or without.
@@ -282,9 +255,6 @@ fn reply_by<L: Ledger>(
     cycles: bool,
     steps: &mut Steps<L>,
 ) -> Result<ItemList<u8>, AllocError>
-    requires black { setup.now.black_prisoners < 2 ^ 40 }
-    requires white { setup.now.white_prisoners < 2 ^ 40 }
-    requires komi { IsModest setup.now.komi_halves }
     requires untaxed { limits.now.tax ≡ false }
     requires positions { limits.now.positions ≤ MOST_POSITIONS }
     ensures replied { IfOk result (RepliesBy (cycle_topic cycles topic) limits.now topic
@@ -299,24 +269,24 @@ fn reply_by<L: Ledger>(
 }
 
 impl BoardSession {
-    /// The position on the board with the colour to move, in which each pass has handed the other colour a prisoner.
-    fn counted_setup(&self, colour: Colour) -> Result<Setup, AllocError>
+    /// What the board comes to with the colour to move, where each pass has handed the other colour a prisoner.
+    fn settle_counted(&self, alloc: Global, colour: Colour) -> Result<Settling, AllocError>
         requires few { length self.now.moves < MOST_LINES }
-        ensures value { IfOk result (λ setup. setup
-            ≡ counted_setup (present self.now) self.now.komi_halves colour) }
-        ensures black { IfOk result (λ setup. setup.black_prisoners < 2 ^ 40) }
-        ensures white { IfOk result (λ setup. setup.white_prisoners < 2 ^ 40) }
-        ensures komi { IfOk result (λ setup. IsModest setup.komi_halves) }
+        ensures { IfOk result
+            (SettlesAs (counted_setup (present self.now) self.now.komi_halves colour)) }
     {
         let position = self.present();
         let (prisoners, passes) = (position.prisoners, position.passes);
-        Ok(Setup {
-            board: position.board.copy()?,
-            black_prisoners: prisoners.of(Colour::Black) + passes.of(Colour::White),
-            white_prisoners: prisoners.of(Colour::White) + passes.of(Colour::Black),
-            komi_halves: self.komi_halves(),
-            side: colour,
-        })
+        let black = prisoners.of(Colour::Black) + passes.of(Colour::White);
+        let white = prisoners.of(Colour::White) + passes.of(Colour::Black);
+        settle(
+            alloc,
+            &position.board,
+            black,
+            white,
+            self.komi_halves(),
+            colour,
+        )
     }
 
     /// The reply to an analysis of the present position.
@@ -339,10 +309,12 @@ impl BoardSession {
     {
         let alloc = self.allocator();
         match analysis {
-            Analysis::Game(topic, colour) => {
-                let setup = self.counted_setup(colour)?;
-                reply_by(alloc, id, topic, &setup, limits, cycles, steps)
-            }
+            Analysis::Game(topic, colour) => match self.settle_counted(alloc, colour)? {
+                Settling::Position(setup) => {
+                    reply_by(alloc, id, topic, &setup, limits, cycles, steps)
+                }
+                Settling::Unsettled(words) => refuse_topic(alloc, id, topic, &words),
+            },
             Analysis::Stones(status) => report_stones(alloc, id, &self.present().board, status),
         }
     }

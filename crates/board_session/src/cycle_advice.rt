@@ -4,7 +4,6 @@ ghost use Rattle.std.specs.Prelude.{◌≡◌, ◌≤◌, ◌<◌, ◌+◌, ◌*
 ghost use Rattle.go_grid.specs.Region.{Region};
 ghost use Rattle.gtp_words.specs.Vertices.{vertex_text};
 ghost use Rattle.region_cut.specs.Cut.{AreRegionsOfPlay};
-ghost use Rattle.sgf_go.specs.Position.{IsFit};
 ghost use Rattle.whole_rules.specs.Opening.{MayTax};
 ghost use Rattle.endgame_solver.specs.Faults.{most_steps};
 ghost use Rattle.engine_player.specs.Played.{KeepsNothing};
@@ -87,7 +86,7 @@ fn tell(alloc: Global, game: &mut CyclePlayer, passes: Tally) -> Result<Advice, 
     }
 }
 
-/// What the colour to move is told in a settled position.
+/// What the colour to move is told in a position.
 pub(crate) fn open_with_cycles<L: Ledger>(
     alloc: Global,
     setup: &Setup,
@@ -95,7 +94,6 @@ pub(crate) fn open_with_cycles<L: Ledger>(
     limits: &Limits,
     steps: &mut Steps<L>,
 ) -> Result<Advice, AllocError>
-    requires fit { IsFit setup.now }
     requires taxed { MayTax limits.now.tax setup.now.board }
     requires positions { limits.now.positions ≤ MOST_POSITIONS }
     ensures advised { IfOk result (λ advice. AdvisesWithCycles limits.now setup.now passes
@@ -103,6 +101,7 @@ pub(crate) fn open_with_cycles<L: Ledger>(
     ensures steps { (regions : List Region) → AreRegionsOfPlay setup.now.board regions
         → steps.new ≤ steps.old + most_steps limits.now regions }
 {
+    let size = setup.board().size();
     match CyclePlayer::begin(alloc, setup, limits, MOST_CAPTURES, steps) {
         Ok(mut game) => {
             let advice = tell(alloc, &mut game, passes);
@@ -110,7 +109,6 @@ pub(crate) fn open_with_cycles<L: Ledger>(
             advice
         }
         Err(fault) => {
-            let size = setup.board.size();
             let words = words_of(alloc, size, limits, fault)?;
             Ok(Advice::Unopened(words))
         }

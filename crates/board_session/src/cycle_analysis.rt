@@ -1,15 +1,12 @@
 //! Analyses of the present position where kos can arise.
 
-ghost use Rattle.std.specs.Prelude.{◌≡◌, ◌≤◌, ◌<◌, ◌+◌, ◌^◌, List, false, IfOk};
+ghost use Rattle.std.specs.Prelude.{◌≡◌, ◌≤◌, ◌+◌, List, false, IfOk};
 ghost use Rattle.go_grid.specs.Region.{Region};
 ghost use Rattle.region_cut.specs.Cut.{AreRegionsOfPlay};
-ghost use Rattle.sgf_go.specs.Position.{IsFit};
 ghost use Rattle.endgame_solver.specs.Faults.{most_steps};
-ghost use Rattle.board_session.specs.Kept.{IsModest};
 ghost use Rattle.board_session.specs.declared.topic.CycleTopic.{CycleTopic};
 ghost use Rattle.board_session.specs.inner.Analysing.{RepliesInWithCycles, RepliesOnWithCycles};
 
-use crate::advice::unsettled_words;
 use crate::analysis::show;
 use crate::cycle_advice::words_of;
 use crate::refusal::refuse_unsolved;
@@ -70,36 +67,6 @@ fn reply_on(
     }
 }
 
-/// The reply on a topic of a settled position.
-fn reply_settled<L: Ledger>(
-    alloc: Global,
-    id: &[u8],
-    topic: CycleTopic,
-    setup: &Setup,
-    limits: &Limits,
-    steps: &mut Steps<L>,
-) -> Result<ItemList<u8>, AllocError>
-    requires fit { IsFit setup.now }
-    requires untaxed { limits.now.tax ≡ false }
-    requires positions { limits.now.positions ≤ MOST_POSITIONS }
-    ensures replied { IfOk result (RepliesInWithCycles limits.now topic setup.now id.now) }
-    ensures steps { (regions : List Region) → AreRegionsOfPlay setup.now.board regions
-        → steps.new ≤ steps.old + most_steps limits.now regions }
-{
-    match CycleGame::begin(alloc, setup, limits, MOST_CAPTURES, steps) {
-        Ok(mut game) => {
-            let reply = reply_on(alloc, id, topic, &mut game, setup.komi_halves);
-            drop(game);
-            reply
-        }
-        Err(fault) => {
-            let size = setup.board.size();
-            let words = words_of(alloc, size, limits, fault)?;
-            refuse_unsolved(alloc, id, &words)
-        }
-    }
-}
-
 /// The reply on a topic of a position.
 pub(crate) fn reply_with_cycles<L: Ledger>(
     alloc: Global,
@@ -109,18 +76,22 @@ pub(crate) fn reply_with_cycles<L: Ledger>(
     limits: &Limits,
     steps: &mut Steps<L>,
 ) -> Result<ItemList<u8>, AllocError>
-    requires black { setup.now.black_prisoners < 2 ^ 40 }
-    requires white { setup.now.white_prisoners < 2 ^ 40 }
-    requires komi { IsModest setup.now.komi_halves }
     requires untaxed { limits.now.tax ≡ false }
     requires positions { limits.now.positions ≤ MOST_POSITIONS }
     ensures replied { IfOk result (RepliesInWithCycles limits.now topic setup.now id.now) }
     ensures steps { (regions : List Region) → AreRegionsOfPlay setup.now.board regions
         → steps.new ≤ steps.old + most_steps limits.now regions }
 {
-    if let Some(point) = setup.board.unsettled()? {
-        let words = unsettled_words(alloc, &setup.board, point)?;
-        return refuse_unsolved(alloc, id, &words);
+    let size = setup.board().size();
+    match CycleGame::begin(alloc, setup, limits, MOST_CAPTURES, steps) {
+        Ok(mut game) => {
+            let reply = reply_on(alloc, id, topic, &mut game, setup.komi_halves());
+            drop(game);
+            reply
+        }
+        Err(fault) => {
+            let words = words_of(alloc, size, limits, fault)?;
+            refuse_unsolved(alloc, id, &words)
+        }
     }
-    reply_settled(alloc, id, topic, setup, limits, steps)
 }

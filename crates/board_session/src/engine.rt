@@ -81,7 +81,7 @@ impl BoardEngine {
         match accept(
             self.session.allocator(),
             id,
-            colour_word(setup.side).as_bytes(),
+            colour_word(setup.side()).as_bytes(),
         ) {
             Ok(reply) => {
                 self.session.take_up(setup);

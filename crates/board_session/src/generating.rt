@@ -1,6 +1,6 @@
 //! Moves that the session generates.
 
-ghost use Rattle.std.specs.Prelude.{◌≡◌, ◌≤◌, ◌<◌, ◌+◌, ◌^◌, List, false, length, IfOk, OnOk, OnErr};
+ghost use Rattle.std.specs.Prelude.{◌≡◌, ◌≤◌, ◌<◌, ◌+◌, List, false, length, IfOk, OnOk, OnErr};
 ghost use Rattle.desk_io.specs.declared.lines.TheConstants.{MOST_LINES};
 ghost use Rattle.go_grid.specs.Region.{Region};
 ghost use Rattle.region_cut.specs.Cut.{AreRegionsOfPlay};
@@ -11,19 +11,20 @@ ghost use Rattle.board_session.specs.Kept.{IsModest};
 ghost use Rattle.board_session.specs.Session.{advice_said, reply_text};
 ghost use Rattle.board_session.specs.States.{present};
 ghost use Rattle.board_session.specs.inner.Doing.{IsGenerated, IsSuggested};
+ghost use Rattle.board_session.specs.inner.Settling.{SettlesAs};
 ghost use Rattle.board_session.specs.inner.Generating.{IsAdviceOnBoard, MayFollow, MayMake, advice_of};
 
 use crate::advice::{Advice, advise, board_move};
 use crate::position::BoardMove;
 use crate::refusal::{accept, refuse_unsolved};
 use crate::session::BoardSession;
+use crate::settling::{Settling, settle};
 use crate::texts::move_text;
 use endgame_solver::Limits;
 use go_grid::{Colour, Size};
 use item_list::ItemList;
 use local_graph::MOST_POSITIONS;
 use local_play::Steps;
-use sgf_go::Setup;
 use std::alloc::{AllocError, Global};
 use std::sync::ledger::Ledger;
 
@@ -62,22 +63,24 @@ fn reply_to(
 }
 
 impl BoardSession {
-    /// The position on the board with the colour to move.
-    fn setup(&self, colour: Colour) -> Result<Setup, AllocError>
+    /// What the board comes to with the colour to move.
+    fn settle(&self, alloc: Global, colour: Colour) -> Result<Settling, AllocError>
         requires few { length self.now.moves < MOST_LINES }
-        ensures value { IfOk result (λ setup. setup
-            ≡ setup_of (present self.now) self.now.komi_halves colour) }
-        ensures small { IfOk result (λ setup. (setup.black_prisoners < 2 ^ 40)
-            × ((setup.white_prisoners < 2 ^ 40) × IsModest setup.komi_halves)) }
+        ensures settled { IfOk result
+            (SettlesAs (setup_of (present self.now) self.now.komi_halves colour)) }
+        ensures komi { IsModest self.now.komi_halves }
     {
         let position = self.present();
-        Ok(Setup {
-            board: position.board.copy()?,
-            black_prisoners: position.prisoners.of(Colour::Black),
-            white_prisoners: position.prisoners.of(Colour::White),
-            komi_halves: self.komi_halves(),
-            side: colour,
-        })
+        let black = position.prisoners.of(Colour::Black);
+        let white = position.prisoners.of(Colour::White);
+        settle(
+            alloc,
+            &position.board,
+            black,
+            white,
+            self.komi_halves(),
+            colour,
+        )
     }
 
     /// What the colour is told.
@@ -99,8 +102,13 @@ impl BoardSession {
             → AreRegionsOfPlay (present self.now).board regions
             → steps.new ≤ steps.old + most_steps limits.now regions }
     {
-        let setup = self.setup(colour)?;
-        advise(alloc, &setup, self.present().passes, limits, cycles, steps)
+        match self.settle(alloc, colour)? {
+            Settling::Position(setup) => {
+                let passes = self.present().passes;
+                advise(alloc, &setup, passes, limits, cycles, steps)
+            }
+            Settling::Unsettled(words) => Ok(Advice::Unopened(words)),
+        }
     }
 
     /// Makes a move of the colour that may be made, with the komi after it.

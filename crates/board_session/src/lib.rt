@@ -19,6 +19,7 @@ mod question;
 mod refusal;
 mod request;
 mod session;
+mod settling;
 mod statuses;
 mod texts;
 mod topic;

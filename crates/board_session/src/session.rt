@@ -4,7 +4,7 @@ ghost use Rattle.std.specs.Prelude.{◌≡◌, ◌<◌, ◌^◌, ◌++◌, ◌�
 ghost use Rattle.desk_io.specs.declared.lines.TheConstants.{MOST_LINES};
 ghost use Rattle.go_grid.specs.declared.grid.Colour.{Colour};
 ghost use Rattle.sgf_go.specs.Komi.{IsInRange};
-ghost use Rattle.sgf_go.specs.Position.{HasFewPrisoners, IsFit};
+ghost use Rattle.go_play.specs.Setup.{HasFewPrisoners};
 ghost use Rattle.board_session.specs.Kept.{IsFitAfter, IsModest, IsOnBoard};
 ghost use Rattle.board_session.specs.Orders.BoardOrder.{boardsize, clear_board, komi, play, undo};
 ghost use Rattle.board_session.specs.Session.{SaysWhetherKnown, done, first_state, reply_text};
@@ -130,19 +130,14 @@ impl BoardSession {
 
     /// The position of a file, and no moves.
     pub(crate) fn take_up(&mut self, setup: Setup)
-        requires fit { IsFit setup }
-        requires few { HasFewPrisoners setup }
+        requires { HasFewPrisoners setup }
         ensures { self.new ≡ of_setup setup }
     {
-        let Setup {
-            board,
-            black_prisoners,
-            white_prisoners,
-            komi_halves,
-            side: _side,
-        } = setup;
+        let black = setup.black_prisoners();
+        let white = setup.white_prisoners();
+        let komi_halves = setup.komi_halves();
         self.moves.clear();
-        self.setup = Position::with_prisoners(board, black_prisoners, white_prisoners);
+        self.setup = Position::with_prisoners(setup.into_board(), black, white);
         self.handicap = 0;
         self.komi_halves = komi_halves;
     }

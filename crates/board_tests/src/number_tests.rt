@@ -92,11 +92,11 @@ fn shows(board: &Board, drawing: &[&[u8]]) -> bool {
 fn draws(alloc: Global, number: u32, drawing: &[&[u8]]) -> Result<bool, AllocError> {
     let setup = make(alloc, number)?;
     Ok(
-        shows(&setup.board, drawing)
-            && setup.side == Colour::Black
-            && setup.komi_halves == 0
-            && setup.black_prisoners == 0
-            && setup.white_prisoners == 0,
+        shows(setup.board(), drawing)
+            && setup.side() == Colour::Black
+            && setup.komi_halves() == 0
+            && setup.black_prisoners() == 0
+            && setup.white_prisoners() == 0,
     )
 }
 

@@ -284,13 +284,13 @@ static CASES: [Case; 9] = [
 
 /// Whether the position is the case's.
 fn shows(alloc: Global, setup: &Setup, case: &Case) -> Result<bool, AllocError> {
-    let letters = drawn(alloc, &setup.board)?;
+    let letters = drawn(alloc, setup.board())?;
     Ok(
         letters.as_slice() == case.board
-            && setup.black_prisoners == case.black
-            && setup.white_prisoners == case.white
-            && setup.komi_halves == case.halves
-            && setup.side == case.side,
+            && setup.black_prisoners() == case.black
+            && setup.white_prisoners() == case.white
+            && setup.komi_halves() == case.halves
+            && setup.side() == case.side,
     )
 }
 
@@ -372,7 +372,7 @@ fn ends_black(alloc: Global, case: &Case, points: usize) -> Result<bool, AllocEr
     }
     match answer(alloc, case) {
         Ok(setup) => {
-            let letters = drawn(alloc, &setup.board)?;
+            let letters = drawn(alloc, setup.board())?;
             Ok(letters.len() == points && letters.last() == Some(&b'X'))
         }
         Err(_) => Ok(false),

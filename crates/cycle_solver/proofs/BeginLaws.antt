@@ -20,8 +20,7 @@ use Rattle.endgame_solver.specs.Regions.{no_region, region_at}
 use Rattle.endgame_solver.specs.declared.limits.Limits.{Limits}
 use Rattle.endgame_solver.specs.Solved.{OpensAs}
 use Rattle.endgame_solver.proofs.BeginLaws.{purse_few}
-use Rattle.sgf_go.specs.Position.{IsFit}
-use Rattle.sgf_go.specs.declared.settings.Setup.{Setup}
+use Rattle.go_play.specs.Setup.{IsFit, Setup}
 use Rattle.cycle_solver.specs.Begun.{Begun, IsSteadyId}
 use Rattle.cycle_solver.specs.CycleFaults.{AreRefused, AreSteadyWithin, IsSteadyWithin}
 use Rattle.cycle_solver.specs.declared.faults.CycleError.{CycleError}

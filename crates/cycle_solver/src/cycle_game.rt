@@ -4,7 +4,6 @@ ghost use Rattle.std.specs.Prelude.{◌≡◌, ◌+◌, ◌<◌, ◌≤◌, ◌�
 ghost use Rattle.go_grid.specs.Region.{Region};
 ghost use Rattle.local_graph.specs.declared.graph.TheConstants.{MOST_POSITIONS};
 ghost use Rattle.region_cut.specs.Cut.{AreRegionsOfPlay};
-ghost use Rattle.sgf_go.specs.Position.{IsFit};
 ghost use Rattle.whole_rules.specs.Opening.{MayTax};
 ghost use Rattle.endgame_solver.specs.Faults.{most_steps};
 ghost use Rattle.whole_rules.specs.FirstWinningMove.{IsFirstWinning, IsWinner};
@@ -90,7 +89,7 @@ impl Model for CycleGame {
 }
 
 impl CycleGame {
-    /// The game that a fit position opens, with a tax where the limits say it, for which nothing may be declared: its regions,
+    /// The game that a position opens, with a tax where the limits say it, for which nothing may be declared: its regions,
     /// each with its graph and the values of all its positions. Or the first region of more than 32 points; or else the first
     /// with too many positions, a value without a form, or more than `most` captures that return before it is steady. It takes
     /// at most one step for each position of each region.
@@ -101,7 +100,6 @@ impl CycleGame {
         most: u8,
         steps: &mut Steps<L>,
     ) -> Result<CycleGame, CycleError>
-        requires fit { IsFit setup.now }
         requires taxed { MayTax limits.now.tax setup.now.board }
         requires positions { limits.now.positions ≤ MOST_POSITIONS }
         ensures begun { Begun setup.now limits.now most result }

@@ -10,7 +10,7 @@ use Rattle.sgf_tree.specs.declared.reader.TheConstants.{MOST_BYTES}
 use Rattle.sgf_go.specs.File.{HasFewBytes, Reads}
 use Rattle.sgf_go.specs.declared.fault.FileFault.{FileFault}
 use Rattle.sgf_go.specs.declared.settings.Settings.{Settings}
-use Rattle.sgf_go.specs.declared.settings.Setup.{Setup}
+use Rattle.go_play.specs.Setup.{Setup}
 use Rattle.sgf_go.proofs.OneReadingLemmas.{not_both, one_setup}
 use Rattle.gd_words.specs.Job.{Job}
 use Rattle.gd_words.specs.Task.{Task}

@@ -1,6 +1,6 @@
 -- What a game with cycles, or its refusal, answers.
 use Rattle.std.proofs.Common.{◌≡◌, ◌≢◌, ℤ, ℕ, ◌<◌, ◌⊎◌, inl, inr, refl, sym, ap, ◌∙◌, subst, List, length, Ok, Err}
-use Rattle.sgf_go.specs.declared.settings.Setup.{Setup}
+use Rattle.go_play.specs.Setup.{Setup}
 use Rattle.gd_words.specs.declared.job.CycleQuestion.{CycleQuestion}
 use Rattle.gd_words.specs.declared.job.CycleQuestion.TheVariants as cycle
 use Rattle.gd_words.specs.declared.job.Question.TheVariants as question

@@ -6,7 +6,7 @@ use Rattle.go_grid.specs.Region.{Region}
 use Rattle.region_cut.specs.Cut.{AreRegionsOfPlay}
 use Rattle.sgf_go.specs.File.{Reads}
 use Rattle.sgf_go.specs.declared.fault.FileFault.{FileFault}
-use Rattle.sgf_go.specs.declared.settings.Setup.{Setup}
+use Rattle.go_play.specs.Setup.{Setup}
 use Rattle.sgf_go.proofs.OneReadingLemmas.{not_both, one_fault, one_setup}
 use Rattle.gd_words.specs.declared.job.CycleQuestion.{CycleQuestion}
 use Rattle.gd_words.specs.declared.job.CycleQuestion.TheVariants as cycle

@@ -10,7 +10,7 @@ use Rattle.go_grid.specs.declared.grid.Colour.{Colour}
 use Rattle.go_grid.specs.declared.grid.Colour.TheVariants.{Black, White}
 use Rattle.go_grid.specs.Chain.{IsSettled}
 use Rattle.sgf_go.specs.declared.settings.Settings.{Settings}
-use Rattle.sgf_go.specs.declared.settings.Setup.{Setup}
+use Rattle.go_play.specs.Setup.{Setup}
 use Rattle.endgame_solver.specs.declared.limits.Limits.{Limits}
 use Rattle.whole_budgets.specs.EnginePlay.{Serves}
 use Rattle.engine_player.specs.Played.{BothServe, Keeping}

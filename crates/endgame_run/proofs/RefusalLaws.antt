@@ -1,6 +1,6 @@
 -- What a position that isn't solved comes to.
 use Rattle.std.proofs.Common.{◌≡◌, ℤ, ℕ, inr, refl, List, sym, subst, ap, ◌∙◌, Ok, Err}
-use Rattle.sgf_go.specs.declared.settings.Setup.{Setup}
+use Rattle.go_play.specs.Setup.{Setup}
 use Rattle.endgame_solver.specs.declared.limits.Limits.{Limits}
 use Rattle.endgame_solver.specs.declared.faults.SolveError.{SolveError}
 use Rattle.endgame_solver.specs.declared.faults.SolveError.TheVariants.{Points, Positions, Cycle, Form, Memory}

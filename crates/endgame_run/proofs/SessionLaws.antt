@@ -28,7 +28,7 @@ use Rattle.endgame_run.specs.declared.question.Report.{Report}
 use Rattle.endgame_run.specs.Question.{IsAnswer}
 use Rattle.endgame_run.specs.inner.Top.{IsOpened}
 use Rattle.sgf_go.specs.declared.settings.Settings.{Settings}
-use Rattle.sgf_go.specs.declared.settings.Setup.{Setup}
+use Rattle.go_play.specs.Setup.{Setup}
 
 -- a session that holds nothing begins with the bytes of the source
 begins_here : (session : Session) (bytes : List ℕ) → session.held ≡ [] → standing session 0 bytes ≡ game_beginning session.game bytes

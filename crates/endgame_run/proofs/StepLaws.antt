@@ -6,7 +6,7 @@ use Rattle.desk_io.specs.Files.Told.{holding}
 use Rattle.desk_io.specs.Files.{Files, IsTold}
 use Rattle.go_grid.specs.Region.{Region}
 use Rattle.sgf_go.specs.File.{Reads}
-use Rattle.sgf_go.specs.declared.settings.Setup.{Setup}
+use Rattle.go_play.specs.Setup.{Setup}
 use Rattle.sgf_go.proofs.OneReadingLemmas.{one_setup}
 use Rattle.board_gen.proofs.OneBoardLemmas.{one_board}
 use Rattle.gd_words.specs.Job.{Job}

@@ -3,7 +3,7 @@ use Rattle.std.proofs.Common.{◌≤◌, ℕ, inl, inr, arith, List, Err}
 use Rattle.std.proofs.lemmas.List.Elements.{Contains-get_or}
 use Rattle.go_grid.specs.declared.grid.Cell.{Cell}
 use Rattle.go_grid.specs.declared.region.Touch.{Touch}
-use Rattle.sgf_go.specs.declared.settings.Setup.{Setup}
+use Rattle.go_play.specs.Setup.{Setup}
 use Rattle.local_graph.specs.LocalGraph.{MoreThan}
 use Rattle.board_gen.specs.Short.{HasShortRegions}
 use Rattle.endgame_solver.specs.declared.faults.SolveError.{SolveError}

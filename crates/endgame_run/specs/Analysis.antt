@@ -1,7 +1,7 @@
 -- `margin`, `moves` and `line`: by how much the position of a file is won, what each move is worth, and how play goes on.
 use Rattle.std.specs.Prelude.{ℕ, List}
 use Rattle.go_grid.specs.Region.{Region}
-use Rattle.sgf_go.specs.declared.settings.Setup.{Setup}
+use Rattle.go_play.specs.Setup.{Setup}
 use Rattle.region_cut.specs.Cut.{AreRegionsOfPlay}
 use Rattle.whole_rules.specs.WholeGame.{Whole}
 use Rattle.endgame_solver.specs.Faults.{AreSound}

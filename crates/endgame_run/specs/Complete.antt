@@ -6,7 +6,7 @@ use Rattle.desk_io.specs.Outside.{Rose}
 use Rattle.go_grid.specs.Region.{Region}
 use Rattle.sgf_go.specs.File.{HasFewBytes, Reads}
 use Rattle.sgf_go.specs.declared.settings.Settings.{Settings}
-use Rattle.sgf_go.specs.declared.settings.Setup.{Setup}
+use Rattle.go_play.specs.Setup.{Setup}
 use Rattle.game_calc.specs.Answer.{IsCalcRefusal}
 use Rattle.game_calc.specs.declared.errors.CalcError.TheVariants as calc_error
 use Rattle.game_calc.specs.declared.errors.CalcFault.{CalcFault}

@@ -3,7 +3,7 @@ use Rattle.std.specs.Prelude.{◌≡◌, ◌⊎◌, ◌<◌, ℕ, ℤ, List, [],
 use Rattle.go_grid.specs.Name.{point_name}
 use Rattle.go_grid.specs.Region.{Region}
 use Rattle.board_words.specs.Words.{word_line}
-use Rattle.sgf_go.specs.declared.settings.Setup.{Setup}
+use Rattle.go_play.specs.Setup.{Setup}
 use Rattle.gd_words.specs.declared.job.CycleQuestion.{CycleQuestion}
 use Rattle.gd_words.specs.declared.job.CycleQuestion.TheVariants.{Margin, Moves, Solve, Values}
 use Rattle.region_cut.specs.Cut.{AreRegionsOfPlay}

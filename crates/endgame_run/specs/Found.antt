@@ -1,7 +1,7 @@
 -- The position that a file gives, or what is wrong with the file.
 use Rattle.std.specs.Prelude.{ℕ, List, Ok}
 use Rattle.sgf_go.specs.declared.settings.Settings.{Settings}
-use Rattle.sgf_go.specs.declared.settings.Setup.{Setup}
+use Rattle.go_play.specs.Setup.{Setup}
 use Rattle.desk_io.specs.Files.{Told, IsTold}
 use Rattle.sgf_go.specs.File.{HasFewBytes, Reads}
 

@@ -9,7 +9,7 @@ use Rattle.go_grid.specs.Board.{other}
 use Rattle.go_grid.specs.Chain.{IsSettled}
 use Rattle.board_words.specs.Words.{winner_line}
 use Rattle.sgf_go.specs.declared.settings.Settings.{Settings}
-use Rattle.sgf_go.specs.declared.settings.Setup.{Setup}
+use Rattle.go_play.specs.Setup.{Setup}
 use Rattle.engine_player.specs.EngineGame.{EngineGame}
 use Rattle.engine_player.specs.Opening.{OpensGame}
 use Rattle.whole_rules.specs.FirstWinningMove.{IsWinner}

@@ -5,7 +5,7 @@ use Rattle.go_grid.specs.Name.{point_name}
 use Rattle.go_grid.specs.Region.{Region}
 use Rattle.board_words.specs.Words.{word_line}
 use Rattle.fault_words.specs.FaultWords.{cycle_words, points_words, positions_words}
-use Rattle.sgf_go.specs.declared.settings.Setup.{Setup}
+use Rattle.go_play.specs.Setup.{Setup}
 use Rattle.region_cut.specs.Cut.{AreRegionsOfPlay}
 use Rattle.endgame_solver.specs.Faults.{AreRefused}
 use Rattle.endgame_solver.specs.declared.limits.Limits.{Limits}

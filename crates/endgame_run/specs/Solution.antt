@@ -1,7 +1,7 @@
 -- The solution of a position: the winner and the first winning move of its opening.
 use Rattle.std.specs.Prelude.{Bool, Option}
 use Rattle.go_grid.specs.declared.grid.Colour.{Colour}
-use Rattle.sgf_go.specs.declared.settings.Setup.{Setup}
+use Rattle.go_play.specs.Setup.{Setup}
 use Rattle.whole_rules.specs.declared.states.Move.{Move}
 use Rattle.whole_rules.specs.WholeGame.{Whole}
 use Rattle.endgame_solver.specs.Solved.{OpensAs}

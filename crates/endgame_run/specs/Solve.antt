@@ -6,7 +6,7 @@ use Rattle.desk_io.specs.Files.{IsTold}
 use Rattle.go_grid.specs.declared.grid.Colour.{Colour}
 use Rattle.go_grid.specs.Region.{Region}
 use Rattle.sgf_go.specs.File.{HasFewBytes, Reads}
-use Rattle.sgf_go.specs.declared.settings.Setup.{Setup}
+use Rattle.go_play.specs.Setup.{Setup}
 use Rattle.gd_words.specs.Job.{IsOnlyJob, Job}
 use Rattle.gd_words.specs.Task.Task.{ask}
 use Rattle.gd_words.specs.declared.job.CycleQuestion.TheVariants as cycle

@@ -5,7 +5,7 @@ use Rattle.desk_io.specs.Files.Told.{holding}
 use Rattle.desk_io.specs.Lines.{IsLine}
 use Rattle.go_grid.specs.Region.{Region}
 use Rattle.sgf_go.specs.File.{Reads}
-use Rattle.sgf_go.specs.declared.settings.Setup.{Setup}
+use Rattle.go_play.specs.Setup.{Setup}
 use Rattle.gd_words.specs.Job.{Job}
 use Rattle.gd_words.specs.Task.{NeedsRegions, Task}
 use Rattle.gd_words.specs.Task.Task.{ask, calc, play, trial}

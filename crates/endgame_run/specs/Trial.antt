@@ -3,7 +3,7 @@ use Rattle.std.specs.Prelude.{◌≡◌, ◌⊎◌, ◌+◌, ◌≤◌, ℕ, Lis
 use Rattle.desk_io.specs.Desk.{Desk, Outside}
 use Rattle.go_grid.specs.declared.grid.Colour.TheVariants.{Black}
 use Rattle.board_gen.specs.Trial.{IsTrialBoard}
-use Rattle.sgf_go.specs.declared.settings.Setup.{Setup}
+use Rattle.go_play.specs.Setup.{Setup}
 use Rattle.endgame_solver.specs.declared.limits.Limits.{Limits}
 use Rattle.endgame_solver.specs.Solved.{Solved, OpensAs}
 use Rattle.endgame_solver.specs.Faults.{most_steps}

@@ -1,7 +1,7 @@
 -- `values`: what each region of play of the position of a file is worth.
 use Rattle.std.specs.Prelude.{◌≡◌, ℕ, List}
 use Rattle.go_grid.specs.Region.{Region}
-use Rattle.sgf_go.specs.declared.settings.Setup.{Setup}
+use Rattle.go_play.specs.Setup.{Setup}
 use Rattle.region_cut.specs.Cut.{AreRegionsOfPlay}
 use Rattle.endgame_solver.specs.Faults.{AreSound}
 use Rattle.endgame_solver.specs.declared.limits.Limits.{Limits}

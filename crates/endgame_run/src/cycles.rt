@@ -2,7 +2,6 @@
 
 ghost use Rattle.std.specs.Prelude.{◌≡◌, ◌<◌, ◌≤◌, ◌+◌, ◌*◌, ℕ, List, IfOk};
 ghost use Rattle.go_grid.specs.Region.{Region};
-ghost use Rattle.sgf_go.specs.Position.{IsFit};
 ghost use Rattle.whole_rules.specs.Opening.{MayTax};
 ghost use Rattle.endgame_solver.specs.Faults.{most_steps};
 ghost use Rattle.region_cut.specs.Cut.{AreRegionsOfPlay};
@@ -111,7 +110,6 @@ pub(crate) fn solve_with_cycles<L: Ledger>(
     limits: &Limits,
     steps: &mut Steps<L>,
 ) -> Result<Report, AllocError>
-    requires fit { IsFit setup.now }
     requires taxed { MayTax limits.now.tax setup.now.board }
     requires positions { limits.now.positions ≤ MOST_POSITIONS }
     ensures answer { IfOk result (λ report. IsPositionAnswer
@@ -121,12 +119,12 @@ pub(crate) fn solve_with_cycles<L: Ledger>(
 {
     match CycleGame::begin(alloc, setup, limits, MOST_CAPTURES, steps) {
         Ok(mut game) => {
-            let report = report_game(alloc, question, &mut game, setup.komi_halves);
+            let report = report_game(alloc, question, &mut game, setup.komi_halves());
             drop(game);
             report
         }
         Err(fault) => {
-            let report = refused_with_cycles(alloc, setup.board.size(), limits, fault)?;
+            let report = refused_with_cycles(alloc, setup.board().size(), limits, fault)?;
             Ok(report)
         }
     }

@@ -3,7 +3,7 @@
 ghost use Rattle.std.specs.Prelude.{◌≡◌, ◌≤◌, length, sum_by, IfOk};
 ghost use Rattle.desk_io.specs.Desk.{input_of};
 ghost use Rattle.desk_io.specs.Outside.{ended};
-ghost use Rattle.sgf_go.specs.declared.settings.Setup.{Setup as Position};
+ghost use Rattle.go_play.specs.Setup.{Setup as Position};
 ghost use Rattle.sgf_tree.specs.Reading.{line_text};
 ghost use Rattle.endgame_run.specs.File.{ReadsFile, dash};
 ghost use Rattle.endgame_run.specs.inner.Found.{HasRanges, IsFileFound, IsFoundInFile, IsLineFound};

@@ -2,7 +2,6 @@
 
 ghost use Rattle.std.specs.Prelude.{◌≡◌, ◌≤◌, ◌+◌, List, [], false, true, IfOk};
 ghost use Rattle.go_grid.specs.Region.{Region};
-ghost use Rattle.sgf_go.specs.Position.{IsFit};
 ghost use Rattle.whole_rules.specs.Opening.{MayTax};
 ghost use Rattle.endgame_solver.specs.Faults.{most_steps};
 ghost use Rattle.region_cut.specs.Cut.{AreRegionsOfPlay};
@@ -28,7 +27,7 @@ fn session_of(player: Player, engine: Option<Colour>, setup: &Setup) -> Session
     ensures engine { IsEngine engine setup.now result.engine }
     ensures fresh { result.held ≡ [] }
 {
-    Session::new(player, engine.unwrap_or(setup.side))
+    Session::new(player, engine.unwrap_or(setup.side()))
 }
 
 /// The session of a position that is solved within the limits.
@@ -39,20 +38,20 @@ fn begin_plain<L: Ledger>(
     engine: Option<Colour>,
     steps: &mut Steps<L>,
 ) -> Result<Opened, AllocError>
-    requires fit { IsFit setup.now }
     requires taxed { MayTax limits.now.tax setup.now.board }
     requires positions { limits.now.positions ≤ MOST_POSITIONS }
     ensures begun { IfOk result (IsBegun limits.now false engine setup.now) }
     ensures steps { (regions : List Region) → AreRegionsOfPlay setup.now.board regions
         → steps.new ≤ steps.old + most_steps limits.now regions }
 {
+    let size = setup.board().size();
     match Solved::begin(alloc, setup, limits, steps) {
         Ok(solved) => {
             let player = Player::without_cycles(solved);
             Ok(Opened::Game(session_of(player, engine, setup)))
         }
         Err(fault) => {
-            let report = refused(alloc, setup.board.size(), limits, fault)?;
+            let report = refused(alloc, size, limits, fault)?;
             Ok(Opened::Fault(report))
         }
     }
@@ -66,20 +65,20 @@ fn begin_with_cycles<L: Ledger>(
     engine: Option<Colour>,
     steps: &mut Steps<L>,
 ) -> Result<Opened, AllocError>
-    requires fit { IsFit setup.now }
     requires taxed { MayTax limits.now.tax setup.now.board }
     requires positions { limits.now.positions ≤ MOST_POSITIONS }
     ensures begun { IfOk result (IsBegun limits.now true engine setup.now) }
     ensures steps { (regions : List Region) → AreRegionsOfPlay setup.now.board regions
         → steps.new ≤ steps.old + most_steps limits.now regions }
 {
+    let size = setup.board().size();
     match CyclePlayer::begin(alloc, setup, limits, MOST_CAPTURES, steps) {
         Ok(game) => {
             let player = Player::with_cycles(game);
             Ok(Opened::Game(session_of(player, engine, setup)))
         }
         Err(fault) => {
-            let report = refused_with_cycles(alloc, setup.board.size(), limits, fault)?;
+            let report = refused_with_cycles(alloc, size, limits, fault)?;
             Ok(Opened::Fault(report))
         }
     }
@@ -92,7 +91,6 @@ pub(crate) fn begin<L: Ledger>(
     game: &Match<'_>,
     steps: &mut Steps<L>,
 ) -> Result<Opened, AllocError>
-    requires fit { IsFit setup.now }
     requires taxed { MayTax game.now.limits.tax setup.now.board }
     requires positions { game.now.limits.positions ≤ MOST_POSITIONS }
     ensures begun { IfOk result (IsBegun game.now.limits game.now.cycles game.now.engine

@@ -3,7 +3,6 @@
 ghost use Rattle.std.specs.Prelude.{◌≡◌, ◌≤◌, true, false, IfOk};
 ghost use Rattle.desk_io.specs.Desk.{IsLater, desk, input_of, known, outside};
 ghost use Rattle.desk_io.specs.Outside.{ended};
-ghost use Rattle.sgf_go.specs.Position.{IsFit};
 ghost use Rattle.whole_rules.specs.Opening.{MayTax};
 ghost use Rattle.endgame_run.specs.File.{ReadsFile, dash, told_of};
 ghost use Rattle.endgame_run.specs.Question.{AnswersQuestion, AreStepsFor, AreToldSteps, IsAnswer, IsPositionAnswer};
@@ -35,10 +34,10 @@ fn terms(setup: &Setup) -> Terms
     } }
 {
     Terms {
-        side: setup.side,
-        komi_halves: setup.komi_halves,
-        black_prisoners: setup.black_prisoners,
-        white_prisoners: setup.white_prisoners,
+        side: setup.side(),
+        komi_halves: setup.komi_halves(),
+        black_prisoners: setup.black_prisoners(),
+        white_prisoners: setup.white_prisoners(),
     }
 }
 
@@ -50,7 +49,6 @@ fn report_on_position<L: Ledger>(
     setup: &Setup,
     steps: &mut Steps<L>,
 ) -> Result<Report, AllocError>
-    requires fit { IsFit setup.now }
     requires taxed { MayTax limits.now.tax setup.now.board }
     requires modest { limits.now.positions ≤ MOST_POSITIONS }
     ensures answer { IfOk result (λ report. IsPositionAnswer
@@ -60,11 +58,11 @@ fn report_on_position<L: Ledger>(
     match question {
         Question::Safe => Ok(Report {
             status: Status::Done,
-            text: safe_text(alloc, &setup.board)?,
+            text: safe_text(alloc, setup.board())?,
         }),
         Question::Board => Ok(Report {
             status: Status::Done,
-            text: board_text(alloc, &setup.board, terms(setup))?,
+            text: board_text(alloc, setup.board(), terms(setup))?,
         }),
         Question::Solve | Question::Values | Question::Margin | Question::Moves | Question::Line =>
             solve(alloc, question, setup, limits, steps),

@@ -2,7 +2,6 @@
 
 ghost use Rattle.std.specs.Prelude.{◌≡◌, ◌<◌, ◌≤◌, ◌+◌, ◌*◌, ◌^◌, List, IfOk};
 ghost use Rattle.go_grid.specs.Region.{Region};
-ghost use Rattle.sgf_go.specs.Position.{IsFit};
 ghost use Rattle.whole_rules.specs.Opening.{MayTax};
 ghost use Rattle.endgame_solver.specs.Faults.{most_steps};
 ghost use Rattle.region_cut.specs.Cut.{AreRegionsOfPlay};
@@ -134,7 +133,6 @@ pub(crate) fn solve<L: Ledger>(
 ) -> Result<Report, AllocError>
     requires regions { NeedsRegions question }
     requires plain { TakesNoCycles question }
-    requires fit { IsFit setup.now }
     requires taxed { MayTax limits.now.tax setup.now.board }
     requires positions { limits.now.positions ≤ MOST_POSITIONS }
     ensures answer { IfOk result (λ report. IsPositionAnswer
@@ -144,12 +142,12 @@ pub(crate) fn solve<L: Ledger>(
 {
     match Solved::begin(alloc, setup, limits, steps) {
         Ok(mut solved) => {
-            let report = report_game(alloc, question, &mut solved, setup.komi_halves);
+            let report = report_game(alloc, question, &mut solved, setup.komi_halves());
             drop(solved);
             report
         }
         Err(fault) => {
-            let report = refused(alloc, setup.board.size(), limits, fault)?;
+            let report = refused(alloc, setup.board().size(), limits, fault)?;
             Ok(report)
         }
     }

@@ -17,7 +17,7 @@ use Rattle.go_grid.specs.declared.grid.Colour.TheVariants.{Black, White}
 use Rattle.go_grid.specs.declared.region.Touch.{Touch}
 use Rattle.go_grid.specs.declared.grid.Colour.{Colour}
 use Rattle.benson_life.specs.Life.{IsAlive}
-use Rattle.sgf_go.specs.declared.settings.Setup.{Setup}
+use Rattle.go_play.specs.Setup.{Setup}
 use Rattle.endgame_solver.specs.Faults.{AreRefused, most_steps, AreSound, IsSound}
 use Rattle.endgame_solver.specs.Solved.{Begun}
 use Rattle.endgame_solver.specs.declared.limits.Limits.{Limits}

@@ -4,7 +4,7 @@ use Rattle.std.specs.List.{AllPairs}
 use Rattle.go_grid.specs.declared.grid.Cell.{Cell}
 use Rattle.go_grid.specs.Board.{Board, cell_at}
 use Rattle.go_grid.specs.Region.{Region}
-use Rattle.sgf_go.specs.declared.settings.Setup.{Setup}
+use Rattle.go_play.specs.Setup.{Setup}
 use Rattle.local_play.specs.LocalPlay.{held_at}
 use Rattle.local_graph.specs.LocalGraph.{IsReachable}
 use Rattle.region_book.specs.Shape.{HaveOneShape}

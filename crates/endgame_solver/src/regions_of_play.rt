@@ -4,7 +4,7 @@ ghost use Rattle.std.specs.Prelude.{◌≡◌, ℕ, ◌<◌, ◌≤◌, Contains
 ghost use Rattle.go_grid.specs.Region.{Region};
 ghost use Rattle.region_cut.specs.LocalBoard.{PlaysLocally};
 ghost use Rattle.region_cut.specs.Cut.{AreRegionsOfPlay};
-ghost use Rattle.sgf_go.specs.Position.{IsFit};
+ghost use Rattle.go_play.specs.Setup.{IsFit};
 ghost use Rattle.whole_rules.specs.Opening.{MayTax};
 ghost use Rattle.endgame_solver.specs.Solved.{OpensAs};
 ghost use Rattle.endgame_solver.specs.Faults.{FindsLarge};
@@ -15,9 +15,9 @@ use crate::winning_moves::value_seen;
 use benson_life::Territory;
 use game_store::GameId;
 use go_grid::{MOST_POINTS, Point, Region};
+use go_play::Setup;
 use local_play::MOST_PLACES;
 use region_cut::cut_territory;
-use sgf_go::Setup;
 use std::alloc::{AllocError, Global};
 use whole_rules::Whole;
 
@@ -28,28 +28,28 @@ pub struct Opening {
     pub regions: Vec<Region>,
 }
 
-/// The opening of a fit position, with or without a tax, which there is only where nothing is declared.
+/// The opening of a position, with or without a tax, which there is only where nothing is declared.
 pub fn opening_of(alloc: Global, setup: &Setup, tax: bool) -> Result<Opening, AllocError>
-    requires fit { IsFit setup.now }
     requires taxed { MayTax tax setup.now.board }
     ensures opens { IfOk result (λ opening. OpensAs setup.now tax opening.whole) }
     ensures regions { IfOk result
         (λ opening. AreRegionsOfPlay setup.now.board opening.regions.items) }
     ensures local { IfOk result (λ opening. (r : Region) → Contains opening.regions.items r
         → PlaysLocally setup.now.board r) }
+    ensures fit { IsFit setup.now }
     ensures few { length setup.now.board.cells ≤ MOST_POINTS }
 {
-    let board = &setup.board;
+    let board = setup.board();
     let _size = board.size();
     let territory = Territory::of(alloc, board)?;
     let whole = Whole::opening_with(
         alloc,
         board,
         &territory,
-        setup.black_prisoners,
-        setup.white_prisoners,
-        setup.komi_halves,
-        setup.side,
+        setup.black_prisoners(),
+        setup.white_prisoners(),
+        setup.komi_halves(),
+        setup.side(),
         tax,
     )?;
     let regions = cut_territory(alloc, board, &territory)?;

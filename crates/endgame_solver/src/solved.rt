@@ -19,7 +19,6 @@ ghost use Rattle.endgame_solver.specs.Thresholds.{IsThresholdFrom};
 ghost use Rattle.endgame_solver.specs.inner.Line.{HasFewStones, TellsNext};
 ghost use Rattle.endgame_solver.specs.inner.Thresholds.{IsMargin};
 ghost use Rattle.region_cut.specs.Cut.{AreRegionsOfPlay};
-ghost use Rattle.sgf_go.specs.Position.{IsFit};
 ghost use Rattle.whole_rules.specs.Opening.{MayTax};
 ghost use Rattle.endgame_solver.specs.Solved.{Begun, IsNumberOfShapes, IsPresent, ArePresent, IsReport, balance_units};
 
@@ -39,9 +38,9 @@ use crate::winning_moves::{
 use dyadic_num::Dyadic;
 use game_store::{GameId, Store};
 use go_grid::{Colour, Point, Region};
+use go_play::Setup;
 use local_graph::MOST_POSITIONS;
 use local_play::Steps;
-use sgf_go::Setup;
 use std::alloc::{AllocError, Global};
 use std::marker::Model;
 use std::sync::ledger::Ledger;
@@ -97,7 +96,7 @@ impl Model for Solved {
 }
 
 impl Solved {
-    /// The game that a fit position opens, with a tax where the limits say it, for which nothing may be declared: its regions, each with its graph and the
+    /// The game that a position opens, with a tax where the limits say it, for which nothing may be declared: its regions, each with its graph and the
     /// values of all its positions. Or the first region of more than 32 points; or else the first with too many positions,
     /// a cycle or a value without a form. It takes at most one step for each position of each region.
     pub fn begin<L: Ledger>(
@@ -106,7 +105,6 @@ impl Solved {
         limits: &Limits,
         steps: &mut Steps<L>,
     ) -> Result<Solved, SolveError>
-        requires fit { IsFit setup.now }
         requires taxed { MayTax limits.now.tax setup.now.board }
         requires positions { limits.now.positions ≤ MOST_POSITIONS }
         ensures begun { Begun setup.now limits.now result }

@@ -3,7 +3,7 @@ use Rattle.std.proofs.Common.{◌≡◌, ◌≤◌, ◌↔◌, ℕ, zero, suc, B
 use Rattle.go_grid.specs.Marks.{IsMarked}
 use Rattle.go_grid.specs.Region.{Region}
 use Rattle.go_grid.specs.declared.grid.Colour.{Colour}
-use Rattle.sgf_go.specs.declared.settings.Setup.{Setup}
+use Rattle.go_play.specs.Setup.{Setup}
 use Rattle.whole_rules.specs.FirstWinningMove.{IsLosing, IsWinner, IsWinning}
 use Rattle.whole_rules.specs.OpeningWith.{Ground}
 use Rattle.whole_rules.specs.PlainRecursion.{LosesWithin, WinsWithin}

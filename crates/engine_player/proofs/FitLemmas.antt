@@ -5,8 +5,7 @@ use Rattle.go_grid.specs.declared.grid.Colour.{Colour}
 use Rattle.go_grid.specs.declared.grid.Colour.TheVariants.{Black, White}
 use Rattle.go_grid.specs.Board.{Board, other}
 use Rattle.go_grid.specs.Region.{Region}
-use Rattle.sgf_go.specs.declared.settings.Setup.{Setup}
-use Rattle.sgf_go.specs.Position.{IsFit}
+use Rattle.go_play.specs.Setup.{IsFit, Setup}
 use Rattle.whole_rules.specs.declared.states.Move.{Move}
 use Rattle.whole_rules.specs.declared.states.MoveError.{MoveError}
 use Rattle.whole_rules.specs.Purses.{taken_out}

@@ -2,7 +2,7 @@
 use Rattle.std.specs.Prelude.{◌≡◌, List, Bool, true, false, None, Some, Ok}
 use Rattle.go_grid.specs.Region.{Region}
 use Rattle.region_cut.specs.Cut.{AreRegionsOfPlay}
-use Rattle.sgf_go.specs.declared.settings.Setup.{Setup}
+use Rattle.go_play.specs.Setup.{Setup}
 use Rattle.endgame_solver.specs.declared.limits.Limits.{Limits}
 use Rattle.endgame_solver.specs.Faults.{AreSound}
 use Rattle.endgame_solver.specs.Solved.{IsPlayable}

@@ -3,7 +3,6 @@
 ghost use Rattle.std.specs.Prelude.{◌≡◌, ◌≤◌, ◌<◌, ◌+◌, ℕ, List, false, IfOk, MatchOption, OnErr, Option, length};
 ghost use Rattle.go_grid.specs.Region.{Region};
 ghost use Rattle.region_cut.specs.Cut.{AreRegionsOfPlay};
-ghost use Rattle.sgf_go.specs.Position.{IsFit};
 ghost use Rattle.whole_rules.specs.Opening.{MayTax};
 ghost use Rattle.go_grid.specs.Board.{Board};
 ghost use Rattle.whole_rules.specs.Purses.{purse, taken_out};
@@ -204,7 +203,7 @@ fn move_by_hand(
 }
 
 impl CyclePlayer {
-    /// The game that a fit position opens, with a tax where the limits say it, in which nothing is kept yet. It refuses as
+    /// The game that a position opens, with a tax where the limits say it, in which nothing is kept yet. It refuses as
     /// `CycleGame::begin` does, and takes as many steps.
     pub fn begin<L: Ledger>(
         alloc: Global,
@@ -213,14 +212,13 @@ impl CyclePlayer {
         most: u8,
         steps: &mut Steps<L>,
     ) -> Result<CyclePlayer, CycleError>
-        requires fit { IsFit setup.now }
         requires taxed { MayTax limits.now.tax setup.now.board }
         requires positions { limits.now.positions ≤ MOST_POSITIONS }
         ensures begun { BeginsPlay setup.now limits.now most result }
         ensures steps { (regions : List Region) → AreRegionsOfPlay setup.now.board regions
             → steps.new ≤ steps.old + most_steps limits.now regions }
     {
-        let _size = setup.board.size();
+        let _size = setup.board().size();
         let game = CycleGame::begin(alloc, setup, limits, most, steps)?;
         match begin_keeping(alloc, game.regions()) {
             Ok(begun) => Ok(CyclePlayer {

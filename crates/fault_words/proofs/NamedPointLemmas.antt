@@ -11,7 +11,7 @@ use Rattle.go_grid.specs.Board.{Board}
 use Rattle.go_grid.specs.Region.{Region}
 use Rattle.benson_life.specs.Region.{IsContested}
 use Rattle.region_cut.specs.Cut.{lowest, AreRegionsOfPlay}
-use Rattle.sgf_go.specs.declared.settings.Setup.{Setup}
+use Rattle.go_play.specs.Setup.{Setup}
 use Rattle.local_graph.specs.declared.cycle.CycleMove.{CycleMove}
 use Rattle.local_graph.specs.LocalGraph.{IsCycle, Plays}
 use Rattle.endgame_solver.specs.declared.limits.Limits.{Limits}

@@ -1,3 +1,4 @@
 pub mod BoardPlayLemmas
 pub mod PlaceLemmas
 pub mod StripLemmas
+pub mod SetupLemmas

@@ -1,3 +1,4 @@
 pub mod Laws
 pub mod Place
+pub mod Setup
 pub mod inner

@@ -2,16 +2,15 @@
 use Rattle.std.proofs.Common.{Bool, false, ◌==◌, length, map, ◌≡◌, ◌≢◌, ◌∷◌, ℕ, List, [], inl, inr, refl, sym, ap, ◌∙◌, subst, Option, Ok, Err, Result, IfOk}
 use Rattle.std.proofs.lemmas.Bool.{false≢true}
 use Rattle.std.specs.Str.{IsUtf8}
-use Rattle.desk_io.specs.Files.{Told, Files, told_file}
+use Rattle.desk_io.specs.Files.{Files, told_file}
 use Rattle.gtp_words.specs.declared.loading.Loading.{Loading}
 use Rattle.gtp_words.specs.declared.loading.Loading.TheVariants.{Position, Nothing, Failed}
 use Rattle.gtp_engine.specs.declared.reply.Refusal.TheVariants.{CannotLoadFile, SyntaxError, UnknownCommand}
 use Rattle.go_grid.specs.declared.grid.Colour.{Colour}
-use Rattle.sgf_go.specs.declared.settings.Settings.{Settings}
 use Rattle.gtp_engine.specs.declared.playing.Action.{Action}
 use Rattle.gtp_engine.specs.inner.Playing.{Acts}
 use Rattle.gtp_engine.specs.declared.limits.EngineLimits.{EngineLimits}
-use Rattle.gtp_engine.specs.inner.Doing.{CanKeep, IsDone, IsLoadNoted, IsTurnTaken}
+use Rattle.gtp_engine.specs.inner.Doing.{IsDone, IsLoadNoted, IsTurnTaken}
 use Rattle.gtp_words.specs.Files.{IsLoaded, load_settings}
 use Rattle.gtp_engine.specs.Request.{Asked, Asks, Order}
 use Rattle.gtp_engine.specs.Request.Asked.{unknown, misfit}
@@ -21,12 +20,6 @@ use Rattle.gtp_words.specs.Loads.Fate.{made, failed, no_load}
 use Rattle.gtp_words.specs.Words.{AreWords, HasId, cleaned}
 use Rattle.gtp_engine.specs.Written.{Engine, IsEngineReply}
 use Rattle.gtp_engine.specs.inner.Written.{IsMet, IsObeyed}
-
--- what was loaded can be taken over
-pub loaded_fits : (told : Told) (settings : Settings) (before now : ℕ) (loading : Loading) → IsLoaded told settings before now loading → CanKeep loading
-loaded_fits told settings before now (Position setup) l = l.1
-loaded_fits told settings before now Nothing l = tt
-loaded_fits told settings before now Failed l = tt
 
 -- a load that was noted
 load_obeyed : (files : Option Files) (before now : ℕ) (id file : List ℕ) (after : Option ℕ) (a b : Engine) (loading : Loading) (reply : List ℕ)

@@ -1,6 +1,5 @@
 pub mod NameLemmas
 pub mod MoveLemmas
-pub mod KeptLemmas
 pub mod OrderLemmas
 pub mod AnswerLemmas
 pub mod AskingLemmas

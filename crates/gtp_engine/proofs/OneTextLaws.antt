@@ -9,7 +9,7 @@ use Rattle.go_grid.specs.declared.grid.Colour.{Colour}
 use Rattle.sgf_tree.specs.declared.reader.TheConstants.{MOST_BYTES}
 use Rattle.sgf_go.specs.File.{Reads}
 use Rattle.sgf_go.specs.declared.settings.Settings.{Settings}
-use Rattle.sgf_go.specs.declared.settings.Setup.{Setup}
+use Rattle.go_play.specs.Setup.{Setup}
 use Rattle.sgf_go.proofs.OneReadingLemmas.{not_both, one_setup}
 use Rattle.whole_rules.specs.declared.states.Move.{Move}
 use Rattle.engine_player.specs.EngineGame.{EngineGame}

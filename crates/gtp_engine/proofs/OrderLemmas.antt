@@ -1,7 +1,7 @@
 -- What single orders leave behind.
 use Rattle.std.proofs.Common.{◌≡◌, ◌≢◌, ◌⊎◌, ◌≤◌, ◌<◌, ℕ, ℤ, List, [], inl, inr, refl, sym, ap, ◌∙◌, subst, Some, None, Ok, Err, Result, IfOk}
 use Rattle.go_grid.specs.declared.grid.Colour.{Colour}
-use Rattle.sgf_go.specs.declared.settings.Setup.{Setup}
+use Rattle.go_play.specs.Setup.{Setup}
 use Rattle.engine_player.specs.EngineGame.{EngineGame}
 use Rattle.engine_player.specs.Opening.{OpensGame, OpensNone}
 use Rattle.endgame_solver.specs.declared.limits.Limits.{Limits}

@@ -4,7 +4,7 @@ use Rattle.std.specs.Prelude.{IfSome}
 use Rattle.desk_io.specs.declared.lines.TheConstants.{MOST_LINES}
 use Rattle.desk_io.specs.Files.{Files}
 use Rattle.go_grid.specs.declared.grid.Colour.{Colour}
-use Rattle.sgf_go.specs.declared.settings.Setup.{Setup}
+use Rattle.go_play.specs.Setup.{Setup}
 use Rattle.whole_rules.specs.declared.states.Move.{Move}
 use Rattle.endgame_solver.specs.declared.limits.Limits.{Limits}
 use Rattle.engine_player.specs.EngineGame.{EngineGame}

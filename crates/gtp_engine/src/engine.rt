@@ -2,11 +2,10 @@
 
 ghost use Rattle.std.specs.Prelude.{◌≡◌, ◌≤◌, ◌<◌, ◌⊎◌, List, ℕ, [], Some, true, false, IfOk, OnErr};
 ghost use Rattle.sgf_go.specs.Komi.{IsInRange};
-ghost use Rattle.sgf_go.specs.Position.{IsFit};
 ghost use Rattle.gtp_words.specs.Asking.{AsksBy};
 ghost use Rattle.gtp_words.specs.declared.loading.Loading.TheVariants.{Position};
 ghost use Rattle.gtp_engine.specs.Asking.{AskedNames, LineNames, OrderNames};
-ghost use Rattle.gtp_engine.specs.inner.Doing.{AsksInRange, CanKeep, HasKomiInRange, IsDone, IsFresh, IsLoadNoted, IsPlainOrder, IsRunning};
+ghost use Rattle.gtp_engine.specs.inner.Doing.{AsksInRange, HasKomiInRange, IsDone, IsFresh, IsLoadNoted, IsPlainOrder, IsRunning};
 ghost use Rattle.gtp_engine.specs.inner.Viewed.{asked_of, order_of};
 ghost use Rattle.gtp_engine.specs.Kept.{HasRoomFor, LeavesRoom};
 ghost use Rattle.gtp_engine.specs.Request.Asked.{something};
@@ -56,7 +55,7 @@ impl Model for Engine {
       loads = e.loads;
     } };
 
-    ghost invariant = { λ e. IsFitEngine e.limits e.setup };
+    ghost invariant = { λ e. IsFitEngine e.limits };
 }
 
 /// The names of all commands, one a line.
@@ -116,7 +115,6 @@ impl Engine {
 
     /// Puts a setup and a game in the place of those that stood there.
     pub(crate) fn put(&mut self, setup: Setup, game: Option<Player>)
-        requires { IsFit setup }
         ensures { self.new ≡ record self.old {
           table = record { setup = setup; game = game };
         } }
@@ -135,8 +133,8 @@ impl Engine {
             })) }
         ensures same { OnErr result (self.new ≡ self.old) }
     {
-        let alloc = self.setup.board.allocator();
-        let setup = fresh(alloc, size, self.setup.komi_halves)?;
+        let alloc = self.setup.board().allocator();
+        let setup = fresh(alloc, size, self.setup.komi_halves())?;
         let reply = accept(alloc, id, b"")?;
         self.put(setup, None);
         Ok(reply)
@@ -149,7 +147,11 @@ impl Engine {
         ensures same { OnErr result (self.new ≡ self.old) }
     {
         if number < 1 || number > 25 {
-            let reply = refuse(self.setup.board.allocator(), id, Refusal::UnacceptableSize)?;
+            let reply = refuse(
+                self.setup.board().allocator(),
+                id,
+                Refusal::UnacceptableSize,
+            )?;
             return Ok(reply);
         }
         let side = number as u8;
@@ -178,25 +180,24 @@ impl Engine {
         ensures set { IfOk result (λ reply. IsDone (komi halves) id.now self.old reply self.new) }
         ensures same { OnErr result (self.new ≡ self.old) }
     {
-        let alloc = self.setup.board.allocator();
+        let alloc = self.setup.board().allocator();
         if self.is_running() {
             let reply = refuse(alloc, id, Refusal::GameHasBegun)?;
             return Ok(reply);
         }
         let reply = accept(alloc, id, b"")?;
-        self.setup.komi_halves = halves;
+        self.setup.set_komi(halves);
         Ok(reply)
     }
 
     /// Takes up the position of a file, or leaves all as it was where memory is refused.
     fn take_up(&mut self, id: &[u8], setup: Setup) -> Result<Text, AllocError>
         requires few { self.old.loads.count < MOST_LOADS }
-        requires fit { CanKeep (Position setup) }
         ensures noted { IfOk result (λ reply. IsLoadNoted
             id.now (Position setup) self.old reply self.new) }
         ensures same { OnErr result (self.new ≡ self.old) }
     {
-        match accept(self.setup.board.allocator(), id, b"") {
+        match accept(self.setup.board().allocator(), id, b"") {
             Ok(reply) => {
                 self.put(setup, None);
                 self.loads.note_made();
@@ -212,11 +213,10 @@ impl Engine {
     /// Notes what a load comes to.
     fn note(&mut self, id: &[u8], loading: Loading) -> Result<Text, AllocError>
         requires few { self.old.loads.count < MOST_LOADS }
-        requires fit { CanKeep loading }
         ensures noted { IfOk result (λ reply. IsLoadNoted id.now loading self.old reply self.new) }
         ensures same { OnErr result (self.new ≡ self.old) }
     {
-        let alloc = self.setup.board.allocator();
+        let alloc = self.setup.board().allocator();
         match loading {
             Loading::Position(setup) => self.take_up(id, setup),
             Loading::Nothing => {
@@ -249,7 +249,7 @@ impl Engine {
         ensures same_files { H.files shelf.new ≡ H.files shelf.old }
         ensures later { H.faults shelf.old ≤ H.faults shelf.new }
     {
-        let alloc = self.setup.board.allocator();
+        let alloc = self.setup.board().allocator();
         let name = match str::from_utf8(file) {
             Ok(name) => name,
             Err(_) => return refuse(alloc, id, Refusal::CannotLoadFile),
@@ -266,7 +266,7 @@ impl Engine {
             (order_of request.entry) id.now self.old reply self.new) }
         ensures same { OnErr result (self.new ≡ self.old) }
     {
-        let alloc = self.setup.board.allocator();
+        let alloc = self.setup.board().allocator();
         match request {
             Request::ProtocolVersion => accept(alloc, id, b"2"),
             Request::Name => accept(alloc, id, b"gdsolve"),
@@ -275,7 +275,7 @@ impl Engine {
             Request::ListCommands => accept(alloc, id, ALL_COMMANDS),
             Request::BoardSize(number) => self.resize(id, number),
             Request::ClearBoard => {
-                let size = self.setup.board.size();
+                let size = self.setup.board().size();
                 self.clear(id, size)
             }
             Request::Komi(halves) => self.set_komi(id, halves),
@@ -340,7 +340,7 @@ impl Engine {
         ensures steps { (steps.new ≡ steps.old) ⊎ (AskForTurn (asked_of asked.entry)
             × OpensWithin self.old.limits self.old.table steps.old steps.new) }
     {
-        let alloc = self.setup.board.allocator();
+        let alloc = self.setup.board().allocator();
         match asked {
             Asked::Something(request) => {
                 let quit = is_quit(&request);
@@ -373,7 +373,7 @@ impl Engine {
         ensures steps { AreLineSteps self.old.limits self.old.table line.now
             steps.old steps.new }
     {
-        let alloc = self.setup.board.allocator();
+        let alloc = self.setup.board().allocator();
         let text = clean(alloc, line)?;
         let words = split(alloc, &text)?;
         if words.is_empty() {

@@ -4,7 +4,6 @@ ghost use Rattle.std.specs.Prelude.{◌≡◌, ◌≤◌, ◌+◌, List, IfOk, O
 ghost use Rattle.endgame_solver.specs.Faults.{most_steps};
 ghost use Rattle.go_grid.specs.Region.{Region};
 ghost use Rattle.region_cut.specs.Cut.{AreRegionsOfPlay};
-ghost use Rattle.sgf_go.specs.Position.{IsFit};
 ghost use Rattle.whole_rules.specs.Opening.{MayTax};
 ghost use Rattle.gtp_engine.specs.inner.Playing.{IsActed, IsCycleFault, IsFault, IsOpened};
 ghost use Rattle.engine_player.specs.Room.{CanTake};
@@ -61,7 +60,6 @@ fn open_plain<L: Ledger>(
     limits: &Limits,
     steps: &mut Steps<L>,
 ) -> Result<Option<Player>, AllocError>
-    requires fit { IsFit setup.now }
     requires taxed { MayTax limits.now.tax setup.now.board }
     requires positions { limits.now.positions ≤ MOST_POSITIONS }
     ensures opened { IfOk result (IsOpened false limits.now setup.now) }
@@ -84,7 +82,6 @@ fn open_with_cycles<L: Ledger>(
     limits: &Limits,
     steps: &mut Steps<L>,
 ) -> Result<Option<Player>, AllocError>
-    requires fit { IsFit setup.now }
     requires taxed { MayTax limits.now.tax setup.now.board }
     requires positions { limits.now.positions ≤ MOST_POSITIONS }
     ensures opened { IfOk result (IsOpened true limits.now setup.now) }
@@ -108,7 +105,6 @@ pub(crate) fn open<L: Ledger>(
     cycles: bool,
     steps: &mut Steps<L>,
 ) -> Result<Option<Player>, AllocError>
-    requires fit { IsFit setup.now }
     requires taxed { MayTax limits.now.tax setup.now.board }
     requires positions { limits.now.positions ≤ MOST_POSITIONS }
     ensures opened { IfOk result (IsOpened cycles limits.now setup.now) }

@@ -15,7 +15,6 @@ ghost use Rattle.gtp_engine.specs.inner.Playing.{IsActed, IsOpened};
 use crate::engine::Engine;
 use crate::playing::{Action, act, open};
 use crate::reply::{Refusal, refuse};
-use crate::setups::with_side;
 use engine_player::Player;
 use game_text::Text;
 use go_grid::Colour;
@@ -40,7 +39,7 @@ impl Engine {
             (λ reply. IsTurnTaken colour action id.now self.old reply self.new) }
         ensures same { OnErr result (self.new ≡ self.old) }
     {
-        let alloc = self.setup.board.allocator();
+        let alloc = self.setup.board().allocator();
         match &mut self.game {
             Some(game) => {
                 if !is_same(game.whole().side(), colour) {
@@ -67,9 +66,9 @@ impl Engine {
             → AreRegionsOfPlay self.now.table.setup.board regions
             → steps.new ≤ steps.old + most_steps (game_limits self.now.limits) regions }
     {
-        let setup = with_side(&self.setup, colour)?;
+        let setup = self.setup.with_side(colour)?;
         let limits = self.limits.of_game();
-        let alloc = self.setup.board.allocator();
+        let alloc = self.setup.board().allocator();
         let game = open(alloc, &setup, &limits, self.limits.cycles, steps);
         drop(setup);
         game
@@ -80,7 +79,7 @@ impl Engine {
         ensures { self.new ≡ with_table self.old
             (record { setup = with_side self.old.table.setup colour; game = Some game }) }
     {
-        self.setup.side = colour;
+        self.setup.turn_to(colour);
         // A game is large: as a call its drop is one step of the proof.
         drop(mem::replace(&mut self.game, Some(game)));
     }
@@ -100,7 +99,7 @@ impl Engine {
             (record { setup = with_side self.old.table.setup colour; game = Some after }))) }
         ensures same { OnErr result (self.new ≡ self.old) }
     {
-        match act(self.setup.board.allocator(), id, &mut game, action) {
+        match act(self.setup.board().allocator(), id, &mut game, action) {
             Ok(reply) => {
                 self.start(colour, game);
                 Ok(reply)
@@ -131,7 +130,7 @@ impl Engine {
         let opened = self.opened(colour, steps)?;
         match opened {
             Some(game) => self.begin(id, colour, action, game),
-            None => refuse(self.setup.board.allocator(), id, Refusal::CannotSolve),
+            None => refuse(self.setup.board().allocator(), id, Refusal::CannotSolve),
         }
     }
 

@@ -22,7 +22,7 @@ use Rattle.gtp_words.specs.Files.{GivesNone}
 
 -- what is on the main line is in the file
 pub found_in : (file : List ℕ) (settings : Settings) (l : List (List PropertyText)) (found : Loading) → IsTreeAnswer file (line l) → IsFoundOn l settings found → IsFoundIn file settings found
-found_in file settings l (Position setup) a h = ((l, a, h.0), h.1, h.2)
+found_in file settings l (Position setup) a h = ((l, a, h.0), h.1)
 found_in file settings l Nothing a h = (fault.Setup h.0, (l, a, h.1))
 found_in file settings l Failed a h = absurd h
 

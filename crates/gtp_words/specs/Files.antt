@@ -6,9 +6,8 @@ use Rattle.desk_io.specs.Outside.{Rose}
 use Rattle.sgf_tree.specs.declared.reader.TheConstants.{MOST_BYTES}
 use Rattle.sgf_go.specs.declared.fault.FileFault.{FileFault}
 use Rattle.sgf_go.specs.declared.settings.Settings.{Settings}
-use Rattle.sgf_go.specs.declared.settings.Setup.{Setup}
+use Rattle.go_play.specs.Setup.{HasFewPrisoners, Setup}
 use Rattle.sgf_go.specs.File.{HasFewBytes, Reads}
-use Rattle.sgf_go.specs.Position.{HasFewPrisoners, IsFit}
 use Rattle.gtp_words.specs.declared.loading.Loading.{Loading}
 use Rattle.gtp_words.specs.declared.loading.Loading.TheVariants.{Position, Nothing, Failed}
 
@@ -28,6 +27,6 @@ GivesNone told settings = (told ≡ absent)
 
 -- the position of the file of which this is told, or that it gives none, or that the load failed, and the count of faults rose
 abbrev pub IsLoaded : Told → Settings → ℕ → ℕ → Loading → Type 0
-IsLoaded told settings before now (Position setup) = GivesSetup told settings setup × IsFit setup × HasFewPrisoners setup
+IsLoaded told settings before now (Position setup) = GivesSetup told settings setup × HasFewPrisoners setup
 IsLoaded told settings before now Nothing = GivesNone told settings
 IsLoaded told settings before now Failed = Rose before now

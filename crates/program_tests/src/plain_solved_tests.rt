@@ -1,7 +1,6 @@
 //! Solved games beside plain recursion.
 
 ghost use Rattle.std.specs.Prelude.{◌≡◌, ◌<◌, ◌^◌, true};
-ghost use Rattle.go_grid.specs.Chain.{IsSettled};
 
 use crate::asserts::nowhere_wrong;
 use crate::solved_tests::{Answers, answers_of};
@@ -22,16 +21,14 @@ pub(crate) fn has_room(state: &Whole) -> bool
 }
 
 /// The state in which a position opens.
-fn opening(alloc: Global, setup: &Setup) -> Result<Whole, AllocError>
-    requires { IsSettled setup.now.board }
-{
+fn opening(alloc: Global, setup: &Setup) -> Result<Whole, AllocError> {
     Whole::opening(
         alloc,
-        &setup.board,
+        setup.board(),
         0,
         0,
-        setup.komi_halves,
-        setup.side,
+        setup.komi_halves(),
+        setup.side(),
         false,
     )
 }

@@ -1,8 +1,5 @@
 //! Winners, against plain recursion.
 
-ghost use Rattle.std.specs.Prelude.{IfSome};
-ghost use Rattle.sgf_go.specs.Position.{IsFit};
-
 use crate::asserts::nowhere_wrong;
 use crate::every_line::has_line;
 use crate::files::{CAPTIVE, TIE, TWO_POINTS, VISITED};
@@ -14,9 +11,7 @@ use std::alloc::{AllocError, Global};
 use whole_rules::{Whole, plain_winner};
 
 /// The position that the words name on this file, if they name one.
-fn setup_of(alloc: Global, words: &[&str], file: &[u8]) -> Option<Setup>
-    ensures { IfSome result IsFit }
-{
+fn setup_of(alloc: Global, words: &[&str], file: &[u8]) -> Option<Setup> {
     if file.len() > 1_048_576 {
         return None;
     }
@@ -33,16 +28,14 @@ fn setup_of(alloc: Global, words: &[&str], file: &[u8]) -> Option<Setup>
 }
 
 /// The state in which it opens, without a tax.
-fn opening_of(alloc: Global, setup: &Setup) -> Result<Whole, AllocError>
-    requires { IsFit setup.now }
-{
+fn opening_of(alloc: Global, setup: &Setup) -> Result<Whole, AllocError> {
     Whole::opening(
         alloc,
-        &setup.board,
-        setup.black_prisoners,
-        setup.white_prisoners,
-        setup.komi_halves,
-        setup.side,
+        setup.board(),
+        setup.black_prisoners(),
+        setup.white_prisoners(),
+        setup.komi_halves(),
+        setup.side(),
         false,
     )
 }
@@ -68,9 +61,7 @@ fn line_of(winner: Option<Colour>) -> &'static [u8] {
 }
 
 /// The line of the winner that plain recursion gives.
-fn line_from(alloc: Global, setup: &Setup) -> &'static [u8]
-    requires { IsFit setup.now }
-{
+fn line_from(alloc: Global, setup: &Setup) -> &'static [u8] {
     match opening_of(alloc, setup) {
         Ok(state) => line_of(winner_of(alloc, &state)),
         Err(_error) => line_of(None),

@@ -1,11 +1,10 @@
 //! Worked games, on boards drawn row by row with X for black and O for white.
 
-ghost use Rattle.std.specs.Prelude.{◌≡◌, ◌<◌, ◌≤◌, ◌^◌, true, IfSome, unsigned_abs};
-ghost use Rattle.go_grid.specs.Chain.{IsSettled};
+ghost use Rattle.std.specs.Prelude.{◌≡◌, ◌<◌};
 
 use drawings::board;
 use endgame_solver::{Limits, SolveError, Solved};
-use go_grid::{Board, Colour};
+use go_grid::Colour;
 use local_play::Steps;
 use sgf_go::Setup;
 use std::alloc::{AllocError, Global};
@@ -86,32 +85,14 @@ pub(crate) const LIMITS: Limits = Limits {
     tax: false,
 };
 
-/// Whether every stone of the board has a liberty, and the declared points are closed off.
-fn is_settled(board: &Board) -> bool
-    ensures { result ≡ true → IsSettled board.now }
-{
-    matches!(board.unsettled(), Ok(None))
-}
-
 /// The position of a game, or `None` where its board isn't settled or its komi is too great.
-pub(crate) fn setup(alloc: Global, game: Game) -> Option<Setup>
-    ensures settled { IfSome result (λ s. IsSettled s.board) }
-    ensures black { IfSome result (λ s. s.black_prisoners < 2 ^ 40) }
-    ensures white { IfSome result (λ s. s.white_prisoners < 2 ^ 40) }
-    ensures komi { IfSome result (λ s. unsigned_abs s.komi_halves ≤ 2000000) }
-{
-    if game.komi.unsigned_abs() > 2_000_000 {
-        return None;
-    }
+pub(crate) fn setup(alloc: Global, game: Game) -> Option<Setup> {
     match board(alloc, game.columns, game.rows, game.drawing) {
-        Ok(board) if is_settled(&board) => Some(Setup {
-            board,
-            black_prisoners: 0,
-            white_prisoners: 0,
-            komi_halves: game.komi,
-            side: game.side,
-        }),
-        _ => None,
+        Ok(board) => match Setup::new(board, 0, 0, game.komi, game.side) {
+            Ok(setup) => Some(setup),
+            Err(_error) => None,
+        },
+        Err(_error) => None,
     }
 }
 

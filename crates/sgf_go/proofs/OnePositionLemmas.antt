@@ -19,7 +19,7 @@ use Rattle.go_grid.specs.Name.{IsName}
 use Rattle.sgf_go.specs.Setup.{Part, GoesOn, ◌then◌, For, Skips, IsSet, Sets, SetsValue, SetsValues, SetsProperty, cell_set, SetsSide, TurnsTo, side_of, placed, moved, with_taken, Choice, pass, stone_at, nothing, is_pass, IsMoveText, MovesAsChosen, Moves, MovesProperty, mover, first_value, value_of, TurnsByProperty, NodePart, LinePart, Unless, ends_before, IsKomiFor, IsFirstChoked, IsRead, TerritoryOf, TerritoryPart, EndsMainLine, FromKomi, FromSize, FromGame, is_go, IsBoardSize, root, empty_board, OnePosition}
 use Rattle.sgf_go.specs.declared.replay.Replay.{Replay}
 use Rattle.sgf_go.specs.declared.settings.Settings.{Settings}
-use Rattle.sgf_go.specs.declared.settings.Setup.{Setup}
+use Rattle.go_play.specs.Setup.{Setup}
 use Rattle.sgf_go.specs.declared.fault.SetupFault.{SetupFault}
 use Rattle.sgf_go.specs.declared.fault.SetupFault.TheVariants.{NoLiberty}
 use Rattle.sgf_go.proofs.KomiLemmas.{one_komi}

@@ -11,7 +11,7 @@ use Rattle.sgf_go.specs.declared.fault.SetupFault.{SetupFault}
 use Rattle.sgf_go.specs.declared.fault.FileFault.{FileFault}
 use Rattle.sgf_go.specs.declared.fault.FileFault.TheVariants as fault
 use Rattle.sgf_go.specs.declared.settings.Settings.{Settings}
-use Rattle.sgf_go.specs.declared.settings.Setup.{Setup}
+use Rattle.go_play.specs.Setup.{Setup}
 use Rattle.sgf_go.specs.Setup.{Gives}
 use Rattle.sgf_go.specs.File.{Reads}
 use Rattle.sgf_go.proofs.OnePositionLemmas.{one_position}

@@ -17,7 +17,7 @@ use Rattle.sgf_tree.specs.declared.tree.Tree.{Tree}
 use Rattle.sgf_tree.specs.Reading.{line_text}
 use Rattle.sgf_go.specs.declared.replay.Replay.{Replay}
 use Rattle.sgf_go.specs.declared.settings.Settings.{Settings}
-use Rattle.sgf_go.specs.declared.settings.Setup.{Setup}
+use Rattle.go_play.specs.Setup.{Setup}
 use Rattle.sgf_go.specs.declared.fault.SetupFault.{SetupFault}
 use Rattle.sgf_go.specs.declared.fault.SetupFault.TheVariants.{WrongGame, BadSize, BadKomi}
 

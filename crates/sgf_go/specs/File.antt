@@ -7,7 +7,7 @@ use Rattle.sgf_tree.specs.Reading.Answer.{line, no_tree, bad_byte, cut_short, to
 use Rattle.sgf_tree.specs.declared.fault.TreeFault.TheVariants.{NoTree, BadByte, CutShort, TooDeep}
 use Rattle.sgf_go.specs.Setup.{Gives}
 use Rattle.sgf_go.specs.declared.settings.Settings.{Settings}
-use Rattle.sgf_go.specs.declared.settings.Setup.{Setup}
+use Rattle.go_play.specs.Setup.{Setup}
 use Rattle.sgf_go.specs.declared.fault.FileFault.{FileFault}
 use Rattle.sgf_go.specs.declared.fault.FileFault.TheVariants as fault
 

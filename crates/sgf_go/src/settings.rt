@@ -1,6 +1,6 @@
-//! What a caller sets, and the position that a record gives.
+//! What a caller sets.
 
-use go_grid::{Board, Colour};
+use go_grid::Colour;
 
 /// The most prisoners that a side has besides those of the record's moves.
 pub const MOST_PRISONERS: u32 = 999_999;
@@ -20,14 +20,4 @@ pub struct Settings {
     pub white_prisoners: u64,
     /// Whether the points that the last node marks by TB and TW are declared.
     pub territory: bool,
-}
-
-/// A position: its board, the stones that each side has taken, the komi in half-points, and the side to move.
-#[derive(Drop)]
-pub struct Setup {
-    pub board: Board,
-    pub black_prisoners: u64,
-    pub white_prisoners: u64,
-    pub komi_halves: i64,
-    pub side: Colour,
 }

@@ -8,7 +8,7 @@ ghost use Rattle.sgf_tree.specs.Reading.{property_text, node_text, line_text};
 ghost use Rattle.sgf_tree.specs.declared.tree.Tree.{Tree};
 ghost use Rattle.sgf_go.specs.Reading.{extent};
 ghost use Rattle.sgf_go.specs.Komi.{IsInRange};
-ghost use Rattle.sgf_go.specs.Position.{HasFewPrisoners, IsFit};
+ghost use Rattle.go_play.specs.Setup.{HasFewPrisoners};
 ghost use Rattle.sgf_go.specs.Values.{colon, Says, IsSide, IsSize};
 ghost use Rattle.sgf_go.specs.inner.Values.{LacksColon};
 ghost use Rattle.sgf_go.specs.Setup.{Counts, AnswersPosition, OnePosition, value_of, is_go, IsBoardSize, IsKomiFor, root, empty_board};
@@ -18,8 +18,9 @@ use crate::fault::{GoError, SetupFault};
 use crate::komi::{read_komi, rest_of};
 use crate::properties::value_of;
 use crate::replay::Replay;
-use crate::settings::{MOST_PRISONERS, Settings, Setup};
+use crate::settings::{MOST_PRISONERS, Settings};
 use go_grid::{Board, Colour, Size};
+use go_play::Setup;
 use sgf_tree::{MOST_BYTES, Node, Property, Tree};
 use std::alloc::{AllocError, Global};
 
@@ -127,23 +128,23 @@ fn finish(replay: Replay, settings: &Settings, komi: i64) -> Result<Setup, GoErr
     requires komi { IsInRange komi }
     requires closed { IsClosedOff replay.board }
     ensures answer { AnswersEnd settings.now komi replay result }
-    ensures fit { IfOk result IsFit }
     ensures few { IfOk result HasFewPrisoners }
     ensures board { IfOk result (λ s. s.board ≡ replay.board) }
     ensures komi { IfOk result (λ s. s.komi_halves ≡ komi) }
 {
-    match replay.board.unsettled()? {
-        Some(point) => Err(GoError::Fault(SetupFault::NoLiberty(point))),
-        None => Ok(Setup {
-            black_prisoners: replay.black + settings.black_prisoners,
-            white_prisoners: replay.white + settings.white_prisoners,
-            komi_halves: komi,
-            side: match settings.turn {
-                Some(turn) => turn,
-                None => replay.side,
-            },
-            board: replay.board,
-        }),
+    let side = match settings.turn {
+        Some(turn) => turn,
+        None => replay.side,
+    };
+    match Setup::new(
+        replay.board,
+        replay.black + settings.black_prisoners,
+        replay.white + settings.white_prisoners,
+        komi,
+        side,
+    ) {
+        Ok(setup) => Ok(setup),
+        Err(error) => Err(GoError::Fault(SetupFault::NoLiberty(error.of_board()?))),
     }
 }
 
@@ -162,7 +163,6 @@ fn finish_line(
     requires komi { IsInRange komi }
     requires undeclared { DeclaresNothing replay.board }
     ensures answer { AnswersTerritory settings.now (map node_text line.now) komi replay result }
-    ensures fit { IfOk result IsFit }
     ensures few { IfOk result HasFewPrisoners }
     ensures undeclared { IfOk result (λ s. (settings.now.territory ≡ false)
         → DeclaresNothing s.board) }
@@ -273,7 +273,6 @@ pub fn position(alloc: Global, tree: &Tree, settings: &Settings) -> Result<Setup
     requires white { settings.now.white_prisoners ≤ MOST_PRISONERS }
     requires komi { IfSome settings.now.komi IsInRange }
     ensures answer { AnswersPosition tree.now settings.now result }
-    ensures fit { IfOk result IsFit }
     ensures few { IfOk result HasFewPrisoners }
     ensures undeclared { IfOk result (λ s. (settings.now.territory ≡ false)
         → DeclaresNothing s.board) }

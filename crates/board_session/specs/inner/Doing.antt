@@ -4,7 +4,7 @@ use Rattle.go_grid.specs.Board.{Board}
 use Rattle.go_grid.specs.declared.grid.Colour.{Colour}
 use Rattle.go_play.specs.Place.{IsSameGround}
 use Rattle.sgf_go.specs.Komi.{IsInRange}
-use Rattle.sgf_go.specs.Position.{HasFewPrisoners, IsFit}
+use Rattle.go_play.specs.Setup.{HasFewPrisoners}
 use Rattle.gtp_words.specs.declared.loading.Loading.{Loading}
 use Rattle.gtp_words.specs.declared.loading.Loading.TheVariants.{Failed, Nothing, Position}
 use Rattle.endgame_solver.specs.declared.limits.Limits.{Limits}
@@ -98,8 +98,8 @@ IsPlainOrder (reg_genmove c) = ⊥
 IsPlainOrder (analyse x) = ⊥
 IsPlainOrder order = Unit {0}
 
--- what a load comes to can be taken up: a position can be opened
+-- what a load comes to can be taken up: there are few prisoners
 abbrev pub CanTakeUp : Loading → Type 0
-CanTakeUp (Position setup) = IsFit setup × HasFewPrisoners setup
+CanTakeUp (Position setup) = HasFewPrisoners setup
 CanTakeUp Nothing = Unit {0}
 CanTakeUp Failed = Unit {0}

@@ -8,11 +8,10 @@ use Rattle.desk_io.specs.Outside.{Rose}
 use Rattle.sgf_tree.specs.Grammar.{PropertyText}
 use Rattle.go_grid.specs.Board.{DeclaresNothing}
 use Rattle.sgf_go.specs.Komi.{IsInRange}
-use Rattle.sgf_go.specs.Position.{IsFit}
+use Rattle.go_play.specs.Setup.{Setup}
 use Rattle.sgf_go.specs.Setup.{Gives}
 use Rattle.sgf_go.specs.declared.fault.SetupFault.{SetupFault}
 use Rattle.sgf_go.specs.declared.settings.Settings.{Settings}
-use Rattle.sgf_go.specs.declared.settings.Setup.{Setup}
 use Rattle.sgf_go.specs.declared.fault.FileFault.{FileFault}
 use Rattle.sgf_go.specs.declared.fault.FileFault.TheVariants as fault
 use Rattle.endgame_run.specs.declared.status.Status.{Status}
@@ -37,12 +36,12 @@ DeclaresAsAsked settings setup = settings.territory ≡ false → DeclaresNothin
 
 -- the position of a main line, or the fault of the line
 abbrev pub IsLineFound : List (List PropertyText) → Settings → Found → Type 0
-IsLineFound l settings (Position setup) = Gives settings l (Ok setup) × IsFit setup × DeclaresAsAsked settings setup
+IsLineFound l settings (Position setup) = Gives settings l (Ok setup) × DeclaresAsAsked settings setup
 IsLineFound l settings (Fault report) = (f : SetupFault) × (report.status ≡ BadFile (fault.Setup f)) × Gives settings l (Err f) × IsSetupFaultText l f report.text
 
 -- the position of a file, or the fault of the file
 abbrev pub IsFileFound : List ℕ → Settings → Found → Type 0
-IsFileFound file settings (Position setup) = Reads file settings (Ok setup) × IsFit setup × DeclaresAsAsked settings setup
+IsFileFound file settings (Position setup) = Reads file settings (Ok setup) × DeclaresAsAsked settings setup
 IsFileFound file settings (Fault report) = (f : FileFault) × (report.status ≡ BadFile f) × Reads file settings (Err f) × IsFaultText file f report.text
 
 -- what is wrong with the file of which this is told, by the counts of faults of the object that holds it: its status and its text
@@ -54,5 +53,5 @@ IsFileFault told before now settings s text = ⊥
 
 -- the position of the file of the word, or what is wrong with the file
 abbrev pub IsFoundInFile : Settings → List ℕ → Input → Input → Found → Type 0
-IsFoundInFile settings word i j (Position setup) = IsPositionOf (told_of i word) settings setup × IsFit setup × DeclaresAsAsked settings setup
+IsFoundInFile settings word i j (Position setup) = IsPositionOf (told_of i word) settings setup × DeclaresAsAsked settings setup
 IsFoundInFile settings word i j (Fault report) = IsFileFault (told_of i word) (count_of i word) (count_of j word) settings report.status report.text

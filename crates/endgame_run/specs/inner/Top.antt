@@ -4,7 +4,7 @@ use Rattle.desk_io.specs.Desk.{Input}
 use Rattle.go_grid.specs.declared.grid.Colour.{Colour}
 use Rattle.go_grid.specs.Chain.{IsSettled}
 use Rattle.sgf_go.specs.declared.settings.Settings.{Settings}
-use Rattle.sgf_go.specs.declared.settings.Setup.{Setup}
+use Rattle.go_play.specs.Setup.{Setup}
 use Rattle.gd_words.specs.Job.{Job}
 use Rattle.gd_words.specs.Task.Task.{ask, calc, gtp, play, trial}
 use Rattle.gd_words.specs.declared.job.CycleQuestion.{CycleQuestion}

@@ -9,7 +9,6 @@ use Rattle.gtp_engine.specs.declared.reply.Refusal.TheVariants.{CannotLoadFile}
 use Rattle.gtp_engine.specs.declared.playing.Action.{Action}
 use Rattle.gtp_engine.specs.inner.Playing.{Acts}
 use Rattle.sgf_go.specs.Komi.{IsInRange}
-use Rattle.sgf_go.specs.Position.{IsFit}
 use Rattle.gtp_engine.specs.Request.{Asked, Order}
 use Rattle.gtp_engine.specs.Request.Asked.{something}
 use Rattle.gtp_engine.specs.Request.Order.{genmove, komi, loadsgf, play}
@@ -59,9 +58,3 @@ HasKomiInRange order = Unit {0}
 abbrev pub AsksInRange : Asked → Type 0
 AsksInRange (something order) = HasKomiInRange order
 AsksInRange asked = Unit {0}
-
--- what a load comes to can be taken over: a position can be solved
-abbrev pub CanKeep : Loading → Type 0
-CanKeep (Position setup) = IsFit setup
-CanKeep Nothing = Unit {0}
-CanKeep Failed = Unit {0}

@@ -3,7 +3,7 @@ use Rattle.std.specs.Prelude.{List, Result, Ok, Err, ℤ}
 use Rattle.sgf_tree.specs.Grammar.{PropertyText}
 use Rattle.sgf_go.specs.declared.replay.Replay.{Replay}
 use Rattle.sgf_go.specs.declared.settings.Settings.{Settings}
-use Rattle.sgf_go.specs.declared.settings.Setup.{Setup}
+use Rattle.go_play.specs.Setup.{Setup}
 use Rattle.sgf_go.specs.declared.fault.GoError.{GoError}
 use Rattle.sgf_go.specs.declared.fault.GoError.TheVariants.{Fault, Memory}
 use Rattle.sgf_go.specs.Setup.{EndsMainLine, Part, TerritoryPart}

@@ -22,8 +22,8 @@ invariant_of-result g c =
     let solved = c.in_ok-found.ensures in
     let done = subst (λ rs. AreSolvedBelow c.args.limits.now c.args.most rs found.games found.known.store (length rs)) c.deref.ensures.value solved.solved in (
       record {
-        held = held_start done c.requires.fit.settled made.regions (few_regions c.args.setup.now.board c.in_ok-opening.opening.regions.items made.regions made.few)
-            made.opens solved.places (purses_small c.requires.fit made.few made.opens);
+        held = held_start done made.fit.settled made.regions (few_regions c.args.setup.now.board c.in_ok-opening.opening.regions.items made.regions made.few)
+            made.opens solved.places (purses_small made.fit made.few made.opens);
         low_sum = solved.low;
         high_sum = solved.high;
       },

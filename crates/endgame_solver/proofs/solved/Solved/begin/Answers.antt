@@ -27,10 +27,10 @@ invariant_of-result g c =
         values = shared.values;
         views_are = shared.views_are;
         shapes = shared.shapes;
-        kept = is_kept c.requires.fit.settled made.regions made.local made.few c.requires.positions shared.solved made.opens
+        kept = is_kept made.fit.settled made.regions made.local made.few c.requires.positions shared.solved made.opens
             (solved.places ∙ ap (λ n. replicate n 0) shared.views_are.many)
             (sum_is found.book shared.graphs shared.values (length regions) _ shared.views_are shared.solved.as_many_values solved.long solved.each)
-            c.requires.fit.black c.requires.fit.white c.requires.fit.komi;
+            made.fit.black made.fit.white made.fit.komi;
       },
       solved.fits,
       none_answered c.new.ensures.items,

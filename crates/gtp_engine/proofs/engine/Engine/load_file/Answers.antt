@@ -8,13 +8,8 @@ use Rattle.gtp_engine.specs.Session.{refused}
 use Rattle.gtp_engine.specs.declared.reply.Refusal.TheVariants.{CannotLoadFile}
 use Rattle.gtp_words.specs.Files.{IsLoaded, load_settings}
 use Rattle.gtp_words.proofs.AskingLemmas.{asked_none, asked_once}
-use Rattle.gtp_engine.proofs.AnswerLemmas.{loaded_fits, loads_obeyed}
+use Rattle.gtp_engine.proofs.AnswerLemmas.{loads_obeyed}
 use Rattle.gtp_engine.proofs.engine.Engine.load_file.Goals as goal
-
-pub note-requires-clause-fit : goal.note-requires-clause-fit
-note-requires-clause-fit g c =
-    let files = g.H.Shelf.files c.args.shelf.now in
-    loaded_fits (told_file files c.in-Ok.name.now) (load_settings c.self.inside.limits.territory c.args.after) (g.H.Shelf.faults c.args.shelf.now) (g.H.Shelf.faults c.load.new.shelf) c.in_ok-loading.loading c.in_ok-loading.ensures.loaded
 
 pub returns-clause-loaded : goal.returns-clause-loaded
 returns-clause-loaded g c =

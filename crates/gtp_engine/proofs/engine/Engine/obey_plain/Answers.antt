@@ -32,4 +32,5 @@ returns-in-Quit-clause-obeyed c =
 pub returns-in-ClearBoard-clause-obeyed : goal.returns-in-ClearBoard-clause-obeyed
 returns-in-ClearBoard-clause-obeyed c =
     done_cleared c.args.id.now c.size-size.result.columns c.size-size.result.rows (order_of c.args.request) c.args.self.now c.clear.new.self c.clear.result (ap order_of c.in-ClearBoard.is)
-    (c.size-size.ensures.columns ∙ ap (λ v. v.table.setup.board.columns) c.self.view_is) (c.size-size.ensures.rows ∙ ap (λ v. v.table.setup.board.rows) c.self.view_is) c.clear.ensures.cleared
+    (c.size-size.ensures.columns ∙ ap (λ g. g.columns) c.board-in-ClearBoard.ensures.board ∙ ap (λ v. v.table.setup.board.columns) c.self.view_is)
+    (c.size-size.ensures.rows ∙ ap (λ g. g.rows) c.board-in-ClearBoard.ensures.board ∙ ap (λ v. v.table.setup.board.rows) c.self.view_is) c.clear.ensures.cleared

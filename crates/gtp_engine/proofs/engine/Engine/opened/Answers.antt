@@ -2,13 +2,9 @@ use Rattle.std.proofs.Common.{◌+◌, ◌≤◌, ap, subst, sym, ◌∙◌, IfO
 use Rattle.endgame_solver.specs.Faults.{most_steps}
 use Rattle.region_cut.specs.Cut.{AreRegionsOfPlay}
 use Rattle.gtp_engine.specs.inner.Playing.{IsOpened}
-use Rattle.gtp_engine.proofs.KeptLemmas.{with_side_fit}
 use Rattle.std.proofs.lemmas.Bool.{both_ways}
 use Rattle.gtp_engine.specs.Session.{game_limits, with_side}
 use Rattle.gtp_engine.proofs.engine.Engine.opened.Goals as goal
-
-pub open-game-requires-clause-fit : goal.open-game-requires-clause-fit
-open-game-requires-clause-fit g c = with_side_fit c.self.inside.setup c.in_ok-setup.setup c.args.colour c.in_ok-setup.ensures c.self.invariant.setup_fit
 
 -- an engine has no tax
 pub open-game-requires-clause-taxed : goal.open-game-requires-clause-taxed
