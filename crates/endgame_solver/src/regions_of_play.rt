@@ -42,16 +42,7 @@ pub fn opening_of(alloc: Global, setup: &Setup, tax: bool) -> Result<Opening, Al
     let board = setup.board();
     let _size = board.size();
     let territory = Territory::of(alloc, board)?;
-    let whole = Whole::opening_with(
-        alloc,
-        board,
-        &territory,
-        setup.black_prisoners(),
-        setup.white_prisoners(),
-        setup.komi_halves(),
-        setup.side(),
-        tax,
-    )?;
+    let whole = Whole::opening_with(alloc, setup, &territory, tax)?;
     let regions = cut_territory(alloc, board, &territory)?;
     Ok(Opening { whole, regions })
 }

@@ -34,6 +34,8 @@ mod files;
 #[cfg(test)]
 mod gtp_tests;
 #[cfg(test)]
+mod library_tests;
+#[cfg(test)]
 mod plain_solved_tests;
 #[cfg(test)]
 mod plain_tests;

@@ -10,6 +10,7 @@ use crate::money::{Purses, Token};
 use crate::states::Whole;
 use benson_life::{Life, Territory, tax_laws};
 use go_grid::{Board, Colour};
+use go_play::Setup;
 use std::alloc::{AllocError, Global};
 
 /// The whole points that a player gets of a komi in half-points. A positive komi is White's.
@@ -113,7 +114,7 @@ impl Whole {
             (λ w. IsOpening board.now black_prisoners white_prisoners komi_halves side tax w) }
     {
         let territory = Territory::of(alloc, board)?;
-        Whole::opening_with(
+        Whole::open_with(
             alloc,
             board,
             &territory,
@@ -125,8 +126,32 @@ impl Whole {
         )
     }
 
-    /// What `opening` gives, from the territory of the board.
+    /// What `opening` gives of a position, from the territory of its board.
     pub fn opening_with(
+        alloc: Global,
+        setup: &Setup,
+        territory: &Territory,
+        tax: bool,
+    ) -> Result<Whole, AllocError>
+        requires territory { IsTerritory setup.now.board territory.now }
+        requires taxed { MayTax tax setup.now.board }
+        ensures { IfOk result (λ w. IsOpening setup.now.board setup.now.black_prisoners
+            setup.now.white_prisoners setup.now.komi_halves setup.now.side tax w) }
+    {
+        Whole::open_with(
+            alloc,
+            setup.board(),
+            territory,
+            setup.black_prisoners(),
+            setup.white_prisoners(),
+            setup.komi_halves(),
+            setup.side(),
+            tax,
+        )
+    }
+
+    /// What `opening` gives, from the territory of the board.
+    fn open_with(
         alloc: Global,
         board: &Board,
         territory: &Territory,

@@ -1,6 +1,6 @@
-use Rattle.std.proofs.Common.{sym, subst}
-use Rattle.whole_rules.specs.Opening.{MayTax}
+use Rattle.std.proofs.Common.{subst}
+use Rattle.benson_life.specs.Territory.{IsTerritory}
 use Rattle.endgame_solver.proofs.regions_of_play.opening_of.Goals as goal
 
-pub opening_with-requires-clause-taxed : goal.opening_with-requires-clause-taxed
-opening_with-requires-clause-taxed c = subst (MayTax c.args.tax) (sym c.board-board.ensures.board) c.requires.taxed
+pub opening_with-requires-clause-territory : goal.opening_with-requires-clause-territory
+opening_with-requires-clause-territory c = subst (λ g. IsTerritory g c.in_ok-territory.territory) c.board-board.ensures.board c.in_ok-territory.ensures
