@@ -140,8 +140,8 @@ fn is_value(
     let Ok(id) = read(alloc, store, text.as_bytes(), 500) else {
         return false;
     };
-    let opening: Option<&GameId> = values.with(budget).as_slice().first();
-    opening == Some(&id)
+    let opening = values.with(budget).as_slice().first().copied();
+    opening.map(GameId::from) == Some(id)
 }
 
 /// Whether the opening's values with each budget up to the least steady one are the games of the texts, and the layer of the last

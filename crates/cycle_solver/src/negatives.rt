@@ -11,7 +11,7 @@ ghost use Rattle.cycle_solver.specs.inner.Shared.{AreLayersOfIds, AreNoted, AreN
 use crate::region_game::RegionGame;
 use game_canon::negate;
 use game_store::{GameId, Store};
-use local_value::SteadyValues;
+use local_value::{ShortId, SteadyValues};
 use std::alloc::{AllocError, Global};
 
 /// The noted negative of an id, or 0 where none is.
@@ -52,7 +52,7 @@ fn note(
 /// Notes the negatives of values.
 fn note_layer(
     alloc: Global,
-    ids: &[GameId],
+    ids: &[ShortId],
     known: &mut [Option<GameId>],
     store: &mut Store,
 ) -> Result<(), AllocError>
@@ -66,7 +66,7 @@ fn note_layer(
     ensures kept { Extends store.old store.new }
 {
     'ids: for id in ids {
-        note(alloc, *id, known, store)?;
+        note(alloc, GameId::from(*id), known, store)?;
     }
     Ok(())
 }

@@ -16,7 +16,7 @@ use crate::views::{View, colour_after};
 use endgame_solver::is_stone_at;
 use game_store::GameId;
 use go_grid::{Colour, Point, Region};
-use local_graph::Edge;
+use local_graph::{CompactEdge, Edge};
 use std::marker::Model;
 
 /// A game for each region, by its number. Contracts see the list of them.
@@ -41,7 +41,7 @@ impl Model for RegionGames {
 fn edge_in(
     region: &Region,
     view: &View,
-    edges: &[Edge],
+    edges: &[CompactEdge],
     point: Point,
     colour: Colour,
 ) -> Option<Edge>
@@ -51,7 +51,7 @@ fn edge_in(
         × IsStoneAt region.now colour point e) }
 {
     'edges: for edge in edges {
-        let own = view.own(*edge);
+        let own = view.own(edge.edge());
         if is_stone_at(region, own, point, colour) {
             return Some(own);
         }
@@ -95,7 +95,7 @@ impl RegionGames {
         id_after(
             view.colours,
             &self.book.negatives,
-            values.with(budget).as_slice()[place],
+            GameId::from(values.with(budget).as_slice()[place]),
         )
     }
 

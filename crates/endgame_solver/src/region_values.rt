@@ -14,9 +14,9 @@ use crate::view_book::{Book, Kind, add_own, add_view, first_kind, kind_of};
 use game_canon::FormError;
 use game_store::Store;
 use go_grid::Region;
-use local_graph::{CycleMove, Graph, GraphError, MOST_POSITIONS, build};
+use local_graph::{CompactGraph, CycleMove, GraphError, MOST_POSITIONS, build_compact};
 use local_play::Steps;
-use local_value::{Values, value_all};
+use local_value::{Values, value_compact};
 use std::alloc::{AllocError, Global};
 use std::sync::ledger::Ledger;
 
@@ -43,7 +43,7 @@ fn graph_of<L: Ledger>(
     region: &Region,
     limits: &Limits,
     steps: &mut Steps<L>,
-) -> Result<Graph, SolveError>
+) -> Result<CompactGraph, SolveError>
     requires { length region.now.points ≤ 32 }
     ensures graph { IfOk result (λ g. IsGraphWithin limits.now.positions region.now g) }
     ensures refusal { IfErr result (λ e. IsRefusalOf limits.now region.now e) }
@@ -51,7 +51,7 @@ fn graph_of<L: Ledger>(
         (3 ^ length region.now.points) }
 {
     let lowest = region.points[0];
-    match build(alloc, region, limits.positions, steps) {
+    match build_compact(alloc, region, limits.positions, steps) {
         Ok(graph) => Ok(graph),
         Err(GraphError::Points(points)) => Err(SolveError::Points(lowest, points)),
         Err(GraphError::Positions) => Err(SolveError::Positions(lowest)),
@@ -67,7 +67,7 @@ fn graph_of<L: Ledger>(
 fn values_of(
     alloc: Global,
     region: &Region,
-    graph: &Graph,
+    graph: &CompactGraph,
     limits: &Limits,
     store: &mut Store,
 ) -> Result<Values, SolveError>
@@ -79,7 +79,7 @@ fn values_of(
     ensures kept { Extends store.old store.new }
 {
     let lowest = region.points[0];
-    match value_all(alloc, graph, store, limits.parts) {
+    match value_compact(alloc, graph, store, limits.parts) {
         Ok(values) => Ok(values),
         Err(FormError::Parts) => Err(SolveError::Form(lowest)),
         Err(FormError::Bounds) => Err(SolveError::Form(lowest)),
@@ -94,7 +94,7 @@ fn solve_region<L: Ledger>(
     limits: &Limits,
     store: &mut Store,
     steps: &mut Steps<L>,
-) -> Result<(Graph, Values), SolveError>
+) -> Result<(CompactGraph, Values), SolveError>
     requires points { length region.now.points ≤ 32 }
     requires limit { limits.now.positions ≤ MOST_POSITIONS }
     ensures solved { IfOk result (λ x. IsSolvedBy limits.now region.now x.0 store.new x.1) }

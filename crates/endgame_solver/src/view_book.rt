@@ -15,7 +15,7 @@ use crate::views::View;
 use game_canon::negate;
 use game_store::{GameId, Store};
 use go_grid::Region;
-use local_graph::Graph;
+use local_graph::CompactGraph;
 use local_play::start;
 use local_value::Values;
 use region_book::{Shape, Turn, shape};
@@ -33,7 +33,7 @@ pub(crate) struct Kind {
 /// The graphs and values of the regions, one graph for each shape, and where each region finds its own.
 #[derive(Drop)]
 pub(crate) struct Book {
-    pub graphs: Vec<Graph>,
+    pub graphs: Vec<CompactGraph>,
     pub values: Vec<Values>,
     pub views: Vec<View>,
 }
@@ -244,7 +244,11 @@ fn own_view(graph: usize, values: usize) -> View
 }
 
 /// Adds the graph and the values of a region, and how it sees them.
-pub(crate) fn add_own(book: &mut Book, graph: Graph, values: Values) -> Result<(), AllocError>
+pub(crate) fn add_own(
+    book: &mut Book,
+    graph: CompactGraph,
+    values: Values,
+) -> Result<(), AllocError>
     ensures graphs { OnOk result (book.new.graphs.items ≡ book.old.graphs.items ++ graph ∷ []) }
     ensures values { OnOk result (book.new.values.items ≡ book.old.values.items ++ values ∷ []) }
     ensures view { OnOk result ((v : View)

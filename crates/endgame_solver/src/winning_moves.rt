@@ -21,7 +21,7 @@ use crate::views::View;
 use dyadic_num::Dyadic;
 use game_store::{GameId, Store};
 use go_grid::{Colour, Point, Region};
-use local_graph::Edge;
+use local_graph::{CompactEdge, Edge};
 use local_value::Values;
 use sum_outcome::Search;
 use whole_rules::{Move, Whole};
@@ -68,7 +68,7 @@ pub fn is_stone_at(region: &Region, edge: Edge, point: Point, colour: Colour) ->
 fn edge_in(
     region: &Region,
     view: View,
-    edges: &[Edge],
+    edges: &[CompactEdge],
     point: Point,
     colour: Colour,
 ) -> Option<Edge>
@@ -79,7 +79,7 @@ fn edge_in(
         × IsStoneAt region.now colour point e) }
 {
     'edges: for edge in edges {
-        let own = view.own(*edge);
+        let own = view.own(edge.edge());
         if is_stone_at(region, own, point, colour) {
             return Some(own);
         }
@@ -88,7 +88,7 @@ fn edge_in(
 }
 
 /// The edges of the graph that a region sees, of the position at a place.
-fn edges_seen(book: &Book, region: usize, place: usize) -> &[Edge]
+fn edges_seen(book: &Book, region: usize, place: usize) -> &[CompactEdge]
     requires view { region < length book.now.views.items }
     requires graph { (view_at book.now.views.items region).graph < length book.now.graphs.items }
     requires place { place < length (seen_graph book.now region).positions }

@@ -24,7 +24,7 @@ fn next_of(edges: &EdgeLists, frame: Frame) -> Option<(Frame, usize)> {
     let left = frame.left.checked_sub(1)?;
     let edge = edges.any_at(frame.node).get(left)?;
     let node = frame.node;
-    Some((Frame { node, left }, edge.next))
+    Some((Frame { node, left }, edge.next()))
 }
 
 /// A search by depth for strong components (Tarjan 1972).

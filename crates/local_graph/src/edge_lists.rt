@@ -1,22 +1,37 @@
 //! Lists of edges, one behind another in one vector.
 
-ghost use Rattle.std.specs.Prelude.{◌≡◌, ◌<◌, length};
+ghost use Rattle.std.specs.Prelude.{◌≡◌, ◌<◌, length, IfOk};
 ghost use Rattle.local_graph.specs.inner.Graph.{lists_of, AreWithin, edges_at, edge_at};
 
+use crate::compact_edge::CompactEdge;
 use crate::graph::Edge;
+use crate::narrow::narrow;
+use std::alloc::AllocError;
 use std::marker::Model;
 
 /// Where a list stands: from `start` on, and before `end`.
 #[derive(Clone, Copy)]
 pub(crate) struct Span {
-    pub(crate) start: usize,
-    pub(crate) end: usize,
+    pub(crate) start: u32,
+    pub(crate) end: u32,
+}
+
+impl Span {
+    /// Where a list stands from one place on and before another. Want of memory where these don't fit in four bytes.
+    pub(crate) fn between(start: usize, end: usize) -> Result<Span, AllocError>
+        ensures { IfOk result (λ span. span ≡ record { start = start; end = end }) }
+    {
+        Ok(Span {
+            start: narrow(start)?,
+            end: narrow(end)?,
+        })
+    }
 }
 
 /// The edges of each position.
 #[derive(Drop)]
 pub(crate) struct EdgeLists {
-    edges: Vec<Edge>,
+    edges: Vec<CompactEdge>,
     spans: Vec<Span>,
 }
 
@@ -34,7 +49,7 @@ impl Model for EdgeLists {
 
 impl EdgeLists {
     /// The lists that spans name, one for each.
-    pub(crate) fn of(edges: Vec<Edge>, spans: Vec<Span>) -> EdgeLists
+    pub(crate) fn of(edges: Vec<CompactEdge>, spans: Vec<Span>) -> EdgeLists
         requires { AreWithin (length edges.items) spans.items }
         ensures { result ≡ lists_of edges.items spans.items }
     {
@@ -49,16 +64,16 @@ impl EdgeLists {
     }
 
     /// The list at a place.
-    pub(crate) fn at(&self, place: usize) -> &[Edge]
+    pub(crate) fn at(&self, place: usize) -> &[CompactEdge]
         requires { place < length self.now }
         ensures { result.now ≡ edges_at self.now place }
     {
         let span = self.spans[place];
-        &self.edges[span.start..span.end]
+        &self.edges[span.start as usize..span.end as usize]
     }
 
     /// The list at a place, or none past the last.
-    pub(crate) fn any_at(&self, place: usize) -> &[Edge] {
+    pub(crate) fn any_at(&self, place: usize) -> &[CompactEdge] {
         if place < self.len() {
             return self.at(place);
         }
@@ -70,6 +85,6 @@ impl EdgeLists {
         requires { number < length (edges_at self.now place) }
         ensures { result ≡ edge_at self.now place number }
     {
-        self.at(place)[number]
+        self.at(place)[number].edge()
     }
 }

@@ -1,10 +1,14 @@
 //! Graphs: positions in the order in which they were found, their moves, and an order with ends first.
 
-ghost use Rattle.std.specs.Prelude.{◌≡◌, ◌<◌, length, slice_index, slice_index_or, []};
+ghost use Rattle.std.specs.Prelude.{◌≡◌, ◌<◌, length, slice_index, slice_index_or, [], IfOk};
 
+use crate::compact_edge::CompactEdge;
+use crate::compact_graph::CompactGraph;
 use crate::edge_lists::EdgeLists;
 use go_grid::Colour;
+use item_list::ItemList;
 use local_play::Local;
+use std::alloc::{AllocError, Global};
 use std::marker::Model;
 
 /// The most positions that a region may have.
@@ -22,8 +26,9 @@ pub struct Edge {
 /// All positions that local moves reach from an opening, and their moves.
 #[derive(Drop)]
 pub struct Graph {
-    positions: Vec<u64>,
-    edges: EdgeLists,
+    compact: CompactGraph,
+    /// By position its edges at full length.
+    edges: Vec<ItemList<Edge>>,
     order: Vec<usize>,
 }
 
@@ -33,36 +38,72 @@ impl Model for Graph {
 
     ghost Value = { Graph };
 
-    ghost view = { λ g. record {
-      positions = g.positions.items;
-      edges = g.edges;
-      order = g.order.items;
-    } };
+    ghost view = { λ g. g.compact };
 
-    ghost invariant = { λ g. length g.edges ≡ length g.positions.items };
+    ghost invariant = { λ g. (g.edges.items ≡ g.compact.edges)
+        × (length g.compact.edges ≡ length g.compact.positions)
+        × (g.order.items ≡ g.compact.order) };
+}
+
+/// The edges at full length.
+fn at_length(alloc: Global, edges: &[CompactEdge]) -> Result<ItemList<Edge>, AllocError>
+    ensures { IfOk result (λ long. long ≡ edges.now) }
+{
+    let mut long = ItemList::new(alloc);
+    for edge in edges {
+        long.push(edge.edge())?;
+    }
+    Ok(long)
+}
+
+/// The lists of edges at full length.
+fn all_at_length(alloc: Global, edges: &EdgeLists) -> Result<Vec<ItemList<Edge>>, AllocError>
+    ensures { IfOk result (λ long. long.items ≡ edges.now) }
+{
+    let mut long = Vec::with_capacity(alloc, edges.len())?;
+    'lists: for place in 0..edges.len() {
+        long.push(at_length(alloc, edges.at(place))?)?;
+    }
+    Ok(long)
+}
+
+/// The places at full length.
+fn places_at_length(alloc: Global, places: &[u32]) -> Result<Vec<usize>, AllocError>
+    ensures { IfOk result (λ long. long.items ≡ places.now) }
+{
+    let mut long = Vec::with_capacity(alloc, places.len())?;
+    for place in places {
+        long.push(*place as usize)?;
+    }
+    Ok(long)
 }
 
 impl Graph {
-    ghost use Rattle.local_graph.specs.Graph.{Graph};
-
-    /// A graph of positions, their edges and an order of them.
-    pub(crate) fn new(positions: Vec<u64>, edges: EdgeLists, order: Vec<usize>) -> Graph
-        requires { length edges ≡ length positions.items }
-        ensures { result
-            ≡ record { positions = positions.items; edges = edges; order = order.items } }
+    /// A graph with its edges at full length.
+    pub(crate) fn of(alloc: Global, compact: CompactGraph) -> Result<Graph, AllocError>
+        ensures { IfOk result (λ graph. graph ≡ compact) }
     {
-        Graph {
-            positions,
+        let edges = all_at_length(alloc, compact.edge_lists())?;
+        let order = places_at_length(alloc, compact.order())?;
+        Ok(Graph {
+            compact,
             edges,
             order,
-        }
+        })
+    }
+
+    /// The graph with edges of half their length.
+    pub fn compact(&self) -> &CompactGraph
+        ensures { result.now ≡ self.now }
+    {
+        &self.compact
     }
 
     /// The number of positions.
     pub fn len(&self) -> usize
         ensures { result ≡ length self.now.positions }
     {
-        self.positions.len()
+        self.compact.len()
     }
 
     /// The position at a place. The opening stands at 0.
@@ -70,7 +111,7 @@ impl Graph {
         requires { place < length self.now.positions }
         ensures { result ≡ slice_index self.now.positions place }
     {
-        Local(self.positions[place])
+        self.compact.position(place)
     }
 
     /// The moves of the position at a place, Black's by place and then White's.
@@ -78,7 +119,7 @@ impl Graph {
         requires { place < length self.now.positions }
         ensures { result.now ≡ slice_index_or self.now.edges place [] }
     {
-        self.edges.at(place)
+        self.edges[place].as_slice()
     }
 
     /// The places of all positions, each after those that its moves lead to.

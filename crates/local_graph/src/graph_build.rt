@@ -1,6 +1,7 @@
 //! Building a graph: the positions are explored in the order in which they are found, and then put in an order.
 
 ghost use Rattle.std.specs.Prelude.{ℕ, ◌≡◌, ◌≢◌, ◌+◌, ◌*◌, ◌^◌, ◌<◌, ◌≤◌, List, [], ◌++◌, length, drop, Contains, slice_index, IfOk, OnOk, IfSome, IfNone, MatchResult, alloc_error};
+ghost use Rattle.local_graph.specs.declared.graph.Edge.{Edge};
 ghost use Rattle.local_graph.specs.declared.graph_build.GraphError.TheVariants.{Memory};
 ghost use Rattle.std.specs.List.{AllPairs};
 ghost use Rattle.go_grid.specs.declared.grid.Cell.{Cell};
@@ -15,9 +16,11 @@ ghost use Rattle.local_graph.specs.inner.Graph.{lists_of, AreWithin};
 ghost use Rattle.local_graph.specs.inner.Found.{Placed, EdgesFor, edge_of, Explored, AreAwaited};
 ghost use Rattle.local_graph.specs.inner.PlaceTable.{threes, IsPlaceTable, IsNumbered, ArePowers, AddsDigit};
 
+use crate::compact_edge::CompactEdge;
+use crate::compact_graph::CompactGraph;
 use crate::cycle::CycleList;
 use crate::edge_lists::{EdgeLists, Span};
-use crate::graph::{Edge, Graph};
+use crate::graph::Graph;
 use crate::numbers::{number_after, powers};
 use crate::place_table::{PlaceTable, threes};
 use crate::search::{Searched, search_from_opening};
@@ -106,15 +109,11 @@ fn place_of(table: &PlaceTable, position: Local, number: u64) -> Option<usize>
 }
 
 /// The edge of a move that leads to the position at a place.
-fn edge_of(step: &LocalMove, next: usize) -> Edge
+fn edge_of(step: &LocalMove, next: usize) -> CompactEdge
+    requires { next < 2 ^ 32 }
     ensures { result ≡ edge_of step.now next }
 {
-    Edge {
-        next,
-        colour: step.colour,
-        place: step.place,
-        taken: step.taken,
-    }
+    CompactEdge::new(next, step.colour, step.place, step.taken)
 }
 
 /// Puts the edges of a position's moves behind those that are there.
@@ -125,7 +124,7 @@ fn list_edges(
     from: Local,
     moves: &[LocalMove],
     limit: u32,
-    edges: &mut Vec<Edge>,
+    edges: &mut Vec<CompactEdge>,
 ) -> Result<(), GraphError>
     requires table { IsPlaceTable table.old }
     requires once { AllPairs (λ a b. a ≢ b) table.old.positions.items }
@@ -186,7 +185,7 @@ fn list_position<L: Ledger>(
     limit: u32,
     steps: &mut Steps<L>,
     moves: &mut Vec<LocalMove>,
-    edges: &mut Vec<Edge>,
+    edges: &mut Vec<CompactEdge>,
 ) -> Result<(), GraphError>
     requires table { IsPlaceTable table.old }
     requires once { AllPairs (λ a b. a ≢ b) table.old.positions.items }
@@ -210,7 +209,7 @@ fn list_position<L: Ledger>(
 /// The edges that were found, the span of them that is each position's, and the places that wait for their edges.
 #[derive(Drop)]
 pub(crate) struct Exploration {
-    edges: Vec<Edge>,
+    edges: Vec<CompactEdge>,
     spans: Vec<Span>,
     waiting: Vec<usize>,
 }
@@ -277,7 +276,8 @@ fn explore_waiting<L: Ledger>(
             &mut found.edges,
         )?;
         let end = found.edges.len();
-        found.spans[place] = Span { start: first, end };
+        let span = Span::between(first, end)?;
+        found.spans[place] = span;
         await_new(&mut found.spans, &mut found.waiting, table.positions.len())?;
     }
     Ok(())
@@ -315,25 +315,29 @@ pub(crate) fn positions_of(table: PlaceTable) -> Vec<u64>
 }
 
 /// The graph of the positions and their edges, or a cycle.
-fn order_graph(alloc: Global, positions: Vec<u64>, edges: EdgeLists) -> Result<Graph, GraphError>
+fn order_graph(
+    alloc: Global,
+    positions: Vec<u64>,
+    edges: EdgeLists,
+) -> Result<CompactGraph, GraphError>
     requires rooted { IsRooted edges }
     requires beside { length edges ≡ length positions.items }
     ensures { IsOrdered positions.items edges result }
 {
     match search_from_opening(alloc, &edges)? {
-        Searched::Order(order) => Ok(Graph::new(positions, edges, order)),
+        Searched::Order(order) => Ok(CompactGraph::new(positions, edges, order)),
         Searched::Cycle(moves, start) => Err(GraphError::Cycle(moves, start)),
     }
 }
 
 /// The graph of exactly the positions that local play reaches from the region's cells, each with exactly its moves. It takes
 /// exactly one step for each of them, and where there is no graph at most one.
-pub fn build<L: Ledger>(
+pub fn build_compact<L: Ledger>(
     alloc: Global,
     region: &Region,
     limit: u32,
     steps: &mut Steps<L>,
-) -> Result<Graph, GraphError>
+) -> Result<CompactGraph, GraphError>
     ensures built { Built region.now limit result }
     ensures limited { steps.new ≤ steps.old + limit }
     ensures finite { steps.new ≤ steps.old + 3 ^ length region.now.points }
@@ -347,4 +351,20 @@ pub fn build<L: Ledger>(
     let mut found = PlaceTable::new(alloc, points)?;
     let edges = explore(alloc, region, limit, &mut found, steps)?;
     order_graph(alloc, positions_of(found), edges)
+}
+
+/// What `build_compact` builds, with edges at full length.
+pub fn build<L: Ledger>(
+    alloc: Global,
+    region: &Region,
+    limit: u32,
+    steps: &mut Steps<L>,
+) -> Result<Graph, GraphError>
+    ensures built { Built region.now limit result }
+    ensures limited { steps.new ≤ steps.old + limit }
+    ensures finite { steps.new ≤ steps.old + 3 ^ length region.now.points }
+    ensures exact { IfOk result (λ graph. steps.new ≡ steps.old + length graph.positions) }
+{
+    let compact = build_compact(alloc, region, limit, steps)?;
+    Ok(Graph::of(alloc, compact)?)
 }

@@ -3,6 +3,8 @@
 #![tactic(auto)]
 
 mod breadth;
+mod compact_edge;
+mod compact_graph;
 mod components;
 mod cycle;
 mod edge_lists;
@@ -10,6 +12,7 @@ mod graph;
 mod graph_build;
 mod laws;
 mod limits;
+mod narrow;
 mod numbers;
 mod place_table;
 mod return_graph;
@@ -18,9 +21,11 @@ mod search;
 mod soonest_cycles;
 mod strong_components;
 
+pub use compact_edge::CompactEdge;
+pub use compact_graph::CompactGraph;
 pub use cycle::{CycleList, CycleMove};
 pub use graph::{Edge, Graph, MOST_POSITIONS};
-pub use graph_build::{GraphError, build};
+pub use graph_build::{GraphError, build, build_compact};
 pub use laws::{cycles_take_both_ways, finite_local_play};
 pub use limits::limit_laws;
 pub use return_graph::{ReturnGraph, build_with_returns};

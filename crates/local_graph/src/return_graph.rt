@@ -7,8 +7,9 @@ ghost use Rattle.local_graph.specs.ReturnGraph.{StaysIn, IsReturningCaptureAt, o
 ghost use Rattle.local_graph.specs.inner.Built.{IsRooted};
 ghost use Rattle.local_graph.specs.inner.MadeWithReturns.{IsMadeOf, AreReturning};
 
+use crate::compact_graph::CompactGraph;
 use crate::edge_lists::EdgeLists;
-use crate::graph::{Edge, Graph};
+use crate::graph::Edge;
 use crate::graph_build::{GraphError, explore, positions_of};
 use crate::place_table::PlaceTable;
 use crate::return_orders::order_between_captures;
@@ -25,14 +26,14 @@ use std::sync::ledger::Ledger;
 pub(crate) struct Returning {
     /// By position the number of its component.
     components: Vec<u32>,
-    white_order: Vec<usize>,
+    white_order: Vec<u32>,
 }
 
 /// All positions that local moves reach from an opening, their moves, and which of these return.
 #[derive(Drop)]
 pub struct ReturnGraph {
     /// With the order for Black, which is one for White too where no move returns.
-    graph: Graph,
+    graph: CompactGraph,
     returning: Option<Returning>,
 }
 
@@ -55,7 +56,7 @@ impl Model for ReturnGraph {
 
 impl ReturnGraph {
     /// The graph with its order for Black. Where there is no cycle, each move leads to an earlier place of that order.
-    pub fn graph(&self) -> &Graph
+    pub fn graph(&self) -> &CompactGraph
         ensures positions { result.now.positions ≡ self.now.positions }
         ensures edges { result.now.edges ≡ self.now.edges }
         ensures order { result.now.order ≡ self.now.black_order }
@@ -92,7 +93,7 @@ impl ReturnGraph {
     }
 
     /// The places of all positions, each after those that its moves lead to, but for returning captures by the colour.
-    pub fn order(&self, colour: Colour) -> &[usize]
+    pub fn order(&self, colour: Colour) -> &[u32]
         ensures { result.now ≡ order_for self.now colour }
     {
         match (colour, &self.returning) {
@@ -107,7 +108,7 @@ fn what_returns(
     alloc: Global,
     positions: &[u64],
     edges: &EdgeLists,
-) -> Result<(Returning, Vec<usize>), AllocError>
+) -> Result<(Returning, Vec<u32>), AllocError>
     requires rooted { IsRooted edges.now }
     requires beside { length edges.now ≡ length positions.now }
     ensures { IfOk result (λ told. AreReturning positions.now edges.now told.0 told.1.items) }
@@ -134,13 +135,13 @@ fn tell_returns(
 {
     if let Some(order) = order_from_opening(alloc, &edges)? {
         return Ok(ReturnGraph {
-            graph: Graph::new(positions, edges, order),
+            graph: CompactGraph::new(positions, edges, order),
             returning: None,
         });
     }
     let (told, black_order) = what_returns(alloc, &positions, &edges)?;
     Ok(ReturnGraph {
-        graph: Graph::new(positions, edges, black_order),
+        graph: CompactGraph::new(positions, edges, black_order),
         returning: Some(told),
     })
 }

@@ -1,14 +1,12 @@
 //! Orders of positions with ends first, where the returning captures of a colour are left out.
 
 ghost use Rattle.std.specs.Prelude.{◌≡◌, ◌+◌, ◌*◌, ◌<◌, ◌≤◌, List, length, map, IfOk, Some};
-ghost use Rattle.go_grid.specs.declared.grid.Cell.{Cell};
-ghost use Rattle.go_grid.specs.Stones.{is_of};
-ghost use Rattle.local_play.specs.Packed.{pack};
 ghost use Rattle.local_graph.specs.declared.graph.Edge.{Edge};
 ghost use Rattle.local_graph.specs.ReturnGraph.{IsOrderBetweenCaptures};
-ghost use Rattle.local_graph.specs.inner.Ranks.{stones_of, weight, IsRank, AreRanks, AllFallOrRise};
+ghost use Rattle.local_graph.specs.inner.Ranks.{IsRank, AreRanks, AllFallOrRise};
 
-use go_grid::{Cell, Colour};
+use crate::narrow::narrow;
+use go_grid::Colour;
 use local_play::{Local, MOST_PLACES};
 use std::alloc::{AllocError, Global};
 
@@ -24,41 +22,16 @@ pub(crate) struct Rank {
     place: usize,
 }
 
-/// Whether a cell holds a stone of a colour.
-fn is_of(cell: Cell, colour: Colour) -> bool
-    ensures { result ≡ is_of colour cell }
-{
-    match (cell, colour) {
-        (Cell::Empty, _) => false,
-        (Cell::Black, Colour::Black) | (Cell::White, Colour::White) => true,
-        (Cell::Black, Colour::White) | (Cell::White, Colour::Black) => false,
-    }
-}
-
-/// How many stones of a colour there are.
-fn stones_of(cells: &[Cell; MOST_PLACES], colour: Colour) -> usize
-    ensures value { result ≡ stones_of colour cells.now }
-    ensures few { result ≤ MOST_PLACES }
-{
-    let mut count = 0;
-    for cell in cells {
-        if is_of(*cell, colour) {
-            count += 1;
-        }
-    }
-    count
-}
-
 /// The rank of the position at a place.
 fn rank_of(position: u64, component: u32, place: usize, colour: Colour) -> Rank
     ensures { IsRank colour position component place result }
 {
-    let cells = Local(position).cells();
-    let others = stones_of(&cells, colour.other());
-    let own = stones_of(&cells, colour);
+    let others = usize::from(Local(position).count_of(colour.other()));
+    let own = usize::from(Local(position).count_of(colour));
+    let weight = (MOST_PLACES + 1) * others + own;
     Rank {
         component,
-        lack: (MOST_WEIGHT - ((MOST_PLACES + 1) * others + own)) as u32,
+        lack: MOST_WEIGHT.saturating_sub(weight) as u32,
         place,
     }
 }
@@ -81,12 +54,12 @@ fn ranks(
 }
 
 /// The places of the ranks.
-fn places_of(alloc: Global, ranks: &[Rank]) -> Result<Vec<usize>, AllocError>
+fn places_of(alloc: Global, ranks: &[Rank]) -> Result<Vec<u32>, AllocError>
     ensures { IfOk result (λ places. places.items ≡ map (λ r. r.place) ranks.now) }
 {
     let mut places = Vec::with_capacity(alloc, ranks.len())?;
     for rank in ranks {
-        places.push(rank.place)?;
+        places.push(narrow(rank.place)?)?;
     }
     Ok(places)
 }
@@ -98,7 +71,7 @@ pub(crate) fn order_between_captures(
     positions: &[u64],
     components: &[u32],
     colour: Colour,
-) -> Result<Vec<usize>, AllocError>
+) -> Result<Vec<u32>, AllocError>
     requires { length components.now ≡ length positions.now }
     ensures { IfOk result (λ order. (edges : List (List Edge))
         → AllFallOrRise colour positions.now components.now edges

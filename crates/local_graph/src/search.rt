@@ -9,9 +9,10 @@ ghost use Rattle.local_graph.specs.inner.Searching.{Searching, Returns, Stepped,
 ghost use Rattle.local_graph.specs.inner.Graph.{edges_at, edge_at, no_edge};
 ghost use Rattle.local_graph.specs.declared.search.Visit.TheVariants.{OnPath, Placed};
 
+use crate::compact_edge::CompactEdge;
 use crate::cycle::{CycleList, CycleMove};
 use crate::edge_lists::EdgeLists;
-use crate::graph::Edge;
+use crate::narrow::narrow;
 use crate::soonest_cycles::soonest_cycle;
 use std::alloc::{AllocError, Global};
 
@@ -38,7 +39,7 @@ pub(crate) struct Frame {
 struct Search {
     path: Vec<Frame>,
     visits: Vec<Visit>,
-    order: Vec<usize>,
+    order: Vec<u32>,
 }
 
 /// What a step of the search comes to.
@@ -53,7 +54,7 @@ pub(crate) enum Progress {
 }
 
 /// The number of the last of the first so many edges that doesn't lead to a placed position, or 0 where there is none.
-fn last_unplaced(edges: &[Edge], visits: &[Visit], left: usize) -> usize
+fn last_unplaced(edges: &[CompactEdge], visits: &[Visit], left: usize) -> usize
     requires some { 0 < left }
     requires within { left ≤ length edges.now }
     requires inside { (k : ℕ) → k < left
@@ -64,7 +65,7 @@ fn last_unplaced(edges: &[Edge], visits: &[Visit], left: usize) -> usize
 {
     let mut at = left - 1;
     'skipping: while at > 0 {
-        match visits[edges[at].next] {
+        match visits[edges[at].next()] {
             Visit::Placed => at -= 1,
             Visit::OnPath => return at,
             Visit::New => return at,
@@ -100,7 +101,7 @@ impl Search {
         ensures order { OnOk result (self.new.order.items ≡ self.old.order.items ++ node ∷ []) }
     {
         self.visits[node] = Visit::Placed;
-        self.order.push(node)?;
+        self.order.push(narrow(node)?)?;
         Ok(())
     }
 
@@ -183,7 +184,7 @@ impl Search {
 /// What a search gives: an order, or a cycle and where it returns to.
 #[derive(Drop)]
 pub(crate) enum Searched {
-    Order(Vec<usize>),
+    Order(Vec<u32>),
     Cycle(CycleList, usize),
 }
 
@@ -256,7 +257,7 @@ pub(crate) fn search_from_opening(alloc: Global, edges: &EdgeLists) -> Result<Se
 pub(crate) fn order_from_opening(
     alloc: Global,
     edges: &EdgeLists,
-) -> Result<Option<Vec<usize>>, AllocError>
+) -> Result<Option<Vec<u32>>, AllocError>
     requires { IsRooted edges.now }
     ensures { IfOk result (λ found. MatchOption found (HasWayBack edges.now)
         (λ order. IsOrderOfPlaces edges.now order.items)) }

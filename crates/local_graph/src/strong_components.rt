@@ -8,6 +8,7 @@ ghost use Rattle.local_graph.specs.inner.Telling.{AreComponents, AreUpTo, TellsF
 ghost use Rattle.local_graph.specs.declared.strong_components.Mark.TheVariants.{Waiting, Told};
 
 use crate::edge_lists::EdgeLists;
+use crate::narrow::narrow;
 use std::alloc::{AllocError, Global};
 
 /// What is known of a position.
@@ -184,16 +185,6 @@ impl ComponentSearch {
         self.leave(edges, last);
         Ok(true)
     }
-}
-
-/// A number in four bytes, or want of memory.
-fn narrow(number: usize) -> Result<u32, AllocError>
-    ensures { IfOk result (λ narrow. narrow ≡ number) }
-{
-    if number > u32::MAX as usize {
-        return Err(AllocError);
-    }
-    Ok(number as u32)
 }
 
 /// The number of a component that was told. Want of memory where it doesn't fit in four bytes, which only more positions than

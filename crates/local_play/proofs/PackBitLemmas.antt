@@ -9,7 +9,10 @@ use Rattle.std.proofs.lemmas.Nat.{ones_cat}
 use Rattle.std.proofs.lemmas.Nat.Bits.{bit_at-lt, bit_at_and, bit_at_or, bit_at_not, bit_at-zero, bit_at-suc, bit_at_above, bit_at-pow_same, bit_at-pow_other, bit_at_cat_low, same_from_bits}
 use Rattle.go_grid.specs.declared.grid.Cell.{Cell}
 use Rattle.go_grid.specs.declared.grid.Cell.TheVariants.{Empty, Black, White}
-use Rattle.local_play.specs.LocalPlay.{held_at, is_stone}
+use Rattle.go_grid.specs.declared.grid.Colour.{Colour}
+use Rattle.go_grid.specs.declared.grid.Colour.TheVariants as colour
+use Rattle.go_grid.specs.Stones.{is_of}
+use Rattle.local_play.specs.LocalPlay.{held_at, is_stone, Holds}
 use Rattle.local_play.specs.Packed.{code, pack}
 use Rattle.local_play.specs.inner.Packed.{cleared}
 use Rattle.local_play.specs.Places.{HasBit}
@@ -260,3 +263,36 @@ cleared_count (c ∷ cs) g a same between stones =
       | inr off ↦
           omega (arith, rest, ones, first, off, count_cons c cs, ap (count_by is_stone) (cleared_off g c cs off), count_cons c (cleared (g / 4) cs))
     ]
+
+-- how many stones of a colour a list has with one cell more
+count_of_cons : (player : Colour) (c : Cell) (cs : List Cell) → count_by (is_of player) (c ∷ cs) ≡ cond (is_of player c) 1 0 + count_by (is_of player) cs
+count_of_cons player c cs = sum_by-cons (λ x. cond (is_of player x) 1 0) c cs
+
+-- whether the first cell is the colour's stone, as a bit
+first_stone : (player : Colour) (c : Cell) (cs : List Cell) (r : ℕ) → r < 2 → (r ≡ 1) ↔ Holds (c ∷ cs) player 0 → r ≡ cond (is_of player c) 1 0
+first_stone colour.Black Empty cs r lt h = let no : r ≢ 1 = λ e. (let x = h.0 e in cc) in omega (arith, no, lt)
+first_stone colour.Black Black cs r lt h = h.1 refl
+first_stone colour.Black White cs r lt h = let no : r ≢ 1 = λ e. (let x = h.0 e in cc) in omega (arith, no, lt)
+first_stone colour.White Empty cs r lt h = let no : r ≢ 1 = λ e. (let x = h.0 e in cc) in omega (arith, no, lt)
+first_stone colour.White Black cs r lt h = let no : r ≢ 1 = λ e. (let x = h.0 e in cc) in omega (arith, no, lt)
+first_stone colour.White White cs r lt h = h.1 refl
+
+-- a set of the places of a colour's stones has as many places as there are such stones
+pub stones_counted : (player : Colour) (cells : List Cell) (a : ℕ) → ((q : ℕ) → HasBit a q ↔ Holds cells player q)
+    → ((p : ℕ) → bit_at a (2 * p + 1) ≡ 0) → count_ones a ≡ count_by (is_of player) cells
+unfolding HasBit lib.Count.ones
+stones_counted player [] a has between = ap count_ones (no_bits a (λ i. elim (bit_cases a (2 * i)) [
+  | inl on ↦ absurd (nothing player i ((has i).0 on))
+  | inr off ↦ off
+]) between)
+  where
+    nothing : (player : Colour) (i : ℕ) → Holds [] player i → ⊥
+    nothing colour.Black i h = let past = get_or_past [] i Empty (omega arith) in let e = sym past ∙ h in cc
+    nothing colour.White i h = let past = get_or_past [] i Empty (omega arith) in let e = sym past ∙ h in cc
+stones_counted player (c ∷ cs) a has between =
+    let rest = stones_counted player cs (a / 4)
+    (λ q. (λ on. (has (suc q)).0 ((has_next a q).1 on), λ held. (has_next a q).0 ((has (suc q)).1 held)))
+    (λ p. fourth_odd a p ∙ between (suc p)) in
+    let first = first_stone player c cs (a % 2) (omega arith)
+    (λ e. (has 0).0 ((has_first a).1 e), λ held. (has_first a).0 ((has 0).1 held)) in
+    omega (arith, rest, first_of_four a (between 0), first, count_of_cons player c cs)

@@ -1,6 +1,7 @@
 //! Local positions as numbers.
 
-ghost use Rattle.std.specs.Prelude.{◌≡◌, ℕ, ◌+◌, ◌*◌, ◌<◌, ◌≤◌, ◌↔◌, List, length};
+ghost use Rattle.std.specs.Prelude.{◌≡◌, ℕ, ◌+◌, ◌*◌, ◌<◌, ◌≤◌, ◌↔◌, List, length, count_by};
+ghost use Rattle.go_grid.specs.Stones.{is_of};
 ghost use Rattle.go_grid.specs.declared.grid.Cell.{Cell};
 ghost use Rattle.go_grid.specs.declared.grid.Cell.TheVariants.{Empty};
 ghost use Rattle.local_play.specs.LocalPlay.{Holds, held_at, with_stone};
@@ -68,6 +69,14 @@ impl Local {
         ensures { result ≡ pack cells.now }
     {
         Local(pack(cells))
+    }
+
+    /// How many stones of a colour there are.
+    pub fn count_of(self, colour: Colour) -> u8
+        ensures { (cells : List Cell) → self ≡ pack cells
+            → result ≡ count_by (is_of colour) cells }
+    {
+        self.stones(colour).count()
     }
 
     /// The stones of a colour. What the set says of places past the region's is that they hold none.

@@ -2,7 +2,6 @@
 
 ghost use Rattle.std.specs.Prelude.{ℕ, ◌≡◌, ◌↔◌, ◌+◌, ◌-◌, ◌<◌, ◌≤◌, ◌^◌, ◌⊎◌, List, true, false, length, take, slice_index_or, [], ◌∷◌, ◌++◌, IfOk, IfErr, IfSome, IsTrue, OnOk, Contains};
 ghost use Rattle.go_grid.specs.Region.{Region};
-ghost use Rattle.local_graph.specs.declared.graph.Edge.{Edge as EdgeModel};
 ghost use Rattle.local_graph.specs.ReturnGraph.{IsReturningCaptureAt};
 ghost use Rattle.short_games.specs.Tree.{Tree};
 ghost use Rattle.game_store.specs.Meaning.{Extends};
@@ -14,12 +13,13 @@ ghost use Rattle.local_value.specs.inner.Memo.{IsMemoRight};
 ghost use Rattle.local_value.specs.inner.Valuing.{IsNoted, AreWithinAfter, HasEdges, most_units};
 
 use crate::memo::Memo;
-use crate::steady_values::{SteadyValues, append};
-use crate::values::{Values, value_of};
+use crate::short_ids::{ShortId, shortened};
+use crate::steady_values::{Layer, SteadyValues, append};
+use crate::values::value_of;
 use game_canon::FormError;
 use game_store::{GameId, Store};
 use go_grid::Colour;
-use local_graph::{Edge, MOST_POSITIONS, ReturnGraph};
+use local_graph::{CompactEdge, Edge, MOST_POSITIONS, ReturnGraph};
 use std::alloc::{AllocError, Global};
 
 /// Why there are no values: one that is needed has no form within the limits, or the region isn't steady at any budget up to
@@ -44,34 +44,29 @@ fn followed(
     owner: Colour,
     place: usize,
     has_budget: bool,
-    edge: &Edge,
-) -> Option<Edge>
+    edge: &CompactEdge,
+) -> Option<CompactEdge>
     requires few { length graph.now.positions ≤ MOST_POSITIONS }
     requires place { place < length graph.now.positions }
     requires next { edge.now.next < length graph.now.positions }
     ensures { IsFollowed owner graph.now.components place (length graph.now.positions) has_budget
         edge.now result }
 {
-    if !graph.is_returning_capture(place, edge, owner) {
+    if !graph.is_returning_capture(place, &edge.edge(), owner) {
         return Some(*edge);
     }
     if !has_budget {
         return None;
     }
-    Some(Edge {
-        next: edge.next + graph.graph().len(),
-        colour: edge.colour,
-        place: edge.place,
-        taken: edge.taken,
-    })
+    Some(edge.further(graph.graph().len()))
 }
 
 /// Whether a move of the position at a place is a capture by the owner that returns.
 fn has_returning_capture(graph: &ReturnGraph, owner: Colour, place: usize) -> bool
     requires place { place < length graph.now.positions }
-    requires next { (e : EdgeModel) → Contains (slice_index_or graph.now.edges place []) e
+    requires next { (e : Edge) → Contains (slice_index_or graph.now.edges place []) e
         → e.next < length graph.now.positions }
-    ensures { result ≡ false → (e : EdgeModel)
+    ensures { result ≡ false → (e : Edge)
         → Contains (slice_index_or graph.now.edges place []) e
         → ¬ IsReturningCaptureAt owner graph.now.components place e }
 {
@@ -79,7 +74,7 @@ fn has_returning_capture(graph: &ReturnGraph, owner: Colour, place: usize) -> bo
         return false;
     }
     for edge in graph.graph().edges(place) {
-        if graph.is_returning_capture(place, edge, owner) {
+        if graph.is_returning_capture(place, &edge.edge(), owner) {
             return true;
         }
     }
@@ -92,11 +87,11 @@ fn list_followed(
     owner: Colour,
     place: usize,
     has_budget: bool,
-    edges: &mut Vec<Edge>,
+    edges: &mut Vec<CompactEdge>,
 ) -> Result<(), AllocError>
     requires few { length graph.now.positions ≤ MOST_POSITIONS }
     requires place { place < length graph.now.positions }
-    requires next { (e : EdgeModel) → Contains (slice_index_or graph.now.edges place []) e
+    requires next { (e : Edge) → Contains (slice_index_or graph.now.edges place []) e
         → e.next < length graph.now.positions }
     ensures { OnOk result (AreFollowed owner graph.now.components place
         (length graph.now.positions) has_budget (slice_index_or graph.now.edges place [])
@@ -119,11 +114,11 @@ fn followed_edges<'a>(
     owner: Colour,
     place: usize,
     has_budget: bool,
-    room: &'a mut Vec<Edge>,
-) -> Result<&'a [Edge], AllocError>
+    room: &'a mut Vec<CompactEdge>,
+) -> Result<&'a [CompactEdge], AllocError>
     requires few { length graph.now.positions ≤ MOST_POSITIONS }
     requires place { place < length graph.now.positions }
-    requires next { (e : EdgeModel) → Contains (slice_index_or graph.now.edges place []) e
+    requires next { (e : Edge) → Contains (slice_index_or graph.now.edges place []) e
         → e.next < length graph.now.positions }
     ensures { IfOk result (λ edges. AreFollowed owner graph.now.components place
         (length graph.now.positions) has_budget (slice_index_or graph.now.edges place [])
@@ -137,14 +132,14 @@ fn followed_edges<'a>(
 }
 
 /// Whether there is a layer.
-fn has_layer(layers: &[Values]) -> bool
+fn has_layer(layers: &[Layer]) -> bool
     ensures { IsBudgetLeft result (length layers.now) }
 {
     !layers.is_empty()
 }
 
 /// Appends the layer that stands so far from the end, if there is one.
-fn append_layer(ids: &mut Vec<GameId>, layers: &[Values], back: usize) -> Result<(), AllocError>
+fn append_layer(ids: &mut Vec<ShortId>, layers: &[Layer], back: usize) -> Result<(), AllocError>
     requires { 0 < back }
     ensures { OnOk result ((layer : List ℕ) × IsLayerBack layers.now back layer
         × (ids.new.items ≡ ids.old.items ++ layer)) }
@@ -159,7 +154,7 @@ fn append_layer(ids: &mut Vec<GameId>, layers: &[Values], back: usize) -> Result
 }
 
 /// Room for a layer, and behind it the last two, the later one first.
-fn room(alloc: Global, count: usize, layers: &[Values]) -> Result<Vec<GameId>, AllocError>
+fn room(alloc: Global, count: usize, layers: &[Layer]) -> Result<Vec<ShortId>, AllocError>
     ensures { IfOk result (λ ids. IsRoom count layers.now ids.items) }
 {
     let mut ids = vec![in alloc; 0; count]?;
@@ -169,7 +164,7 @@ fn room(alloc: Global, count: usize, layers: &[Values]) -> Result<Vec<GameId>, A
 }
 
 /// Whether the id behind an edge is as it was one layer before.
-fn is_unchanged(ids: &[GameId], count: usize, edge: &Edge) -> bool
+fn is_unchanged(ids: &[ShortId], count: usize, edge: &Edge) -> bool
     requires next { edge.now.next < length ids.now }
     requires few { length ids.now + count < 2 ^ 64 }
     ensures { IsTrue result → IsUnchanged count ids.now edge.now }
@@ -178,13 +173,13 @@ fn is_unchanged(ids: &[GameId], count: usize, edge: &Edge) -> bool
 }
 
 /// Whether the id behind each edge is as it was one layer before.
-fn are_unchanged(ids: &[GameId], count: usize, edges: &[Edge]) -> bool
-    requires next { (f : EdgeModel) → Contains edges.now f → f.next < length ids.now }
+fn are_unchanged(ids: &[ShortId], count: usize, edges: &[CompactEdge]) -> bool
+    requires next { (f : Edge) → Contains edges.now f → f.next < length ids.now }
     requires few { length ids.now + count < 2 ^ 64 }
-    ensures { IsTrue result → (f : EdgeModel) → Contains edges.now f → IsUnchanged count ids.now f }
+    ensures { IsTrue result → (f : Edge) → Contains edges.now f → IsUnchanged count ids.now f }
 {
     for edge in edges {
-        if !is_unchanged(ids, count, edge) {
+        if !is_unchanged(ids, count, &edge.edge()) {
             return false;
         }
     }
@@ -192,14 +187,14 @@ fn are_unchanged(ids: &[GameId], count: usize, edges: &[Edge]) -> bool
 }
 
 /// The id of a place one layer before, where nothing behind its edges changed.
-fn kept_id(ids: &[GameId], count: usize, place: usize, edges: &[Edge]) -> Option<GameId>
-    requires next { (f : EdgeModel) → Contains edges.now f → f.next < length ids.now }
+fn kept_id(ids: &[ShortId], count: usize, place: usize, edges: &[CompactEdge]) -> Option<GameId>
+    requires next { (f : Edge) → Contains edges.now f → f.next < length ids.now }
     requires place { place < length ids.now }
     requires few { length ids.now + count < 2 ^ 64 }
     ensures { IfSome result (λ id. IsKept count ids.now place edges.now id) }
 {
     if place + count < ids.len() && are_unchanged(ids, count, edges) {
-        return Some(ids[place + count]);
+        return Some(GameId::from(ids[place + count]));
     }
     None
 }
@@ -209,13 +204,13 @@ fn id_of(
     alloc: Global,
     store: &mut Store,
     memo: &mut Memo,
-    ids: &[GameId],
+    ids: &[ShortId],
     count: usize,
     place: usize,
-    edges: &[Edge],
+    edges: &[CompactEdge],
     parts_limit: u32,
 ) -> Result<GameId, FormError>
-    requires noted { (e : EdgeModel) → Contains edges.now e → IsNoted store.old ids.now e.next }
+    requires noted { (e : Edge) → Contains edges.now e → IsNoted store.old ids.now e.next }
     requires small { AreWithinAfter most_units store.old ids.now edges.now }
     requires place { place < length ids.now }
     requires few { length ids.now + count < 2 ^ 64 }
@@ -240,9 +235,9 @@ fn layer(
     owner: Colour,
     store: &mut Store,
     memo: &mut Memo,
-    layers: &[Values],
+    layers: &[Layer],
     parts_limit: u32,
-) -> Result<Values, FormError>
+) -> Result<Layer, FormError>
     requires graph { (r : Region) × IsReturnGraphOf r graph.now
         × AreLayers r graph.now owner parts_limit store.old layers.now }
     requires few { length graph.now.positions ≤ MOST_POSITIONS }
@@ -265,14 +260,16 @@ fn layer(
     let mut ids = room(alloc, count, layers)?;
     let mut followed = Vec::new(alloc);
     'valuing: for place in graph.order(owner) {
-        let edges = followed_edges(graph, owner, *place, has_budget, &mut followed)?;
-        let id = id_of(alloc, store, memo, &ids, count, *place, edges, parts_limit)?;
-        ids[*place] = id;
+        let place = *place as usize;
+        let edges = followed_edges(graph, owner, place, has_budget, &mut followed)?;
+        let id = id_of(alloc, store, memo, &ids, count, place, edges, parts_limit)?;
+        let short = shortened(id)?;
+        ids[place] = short;
     }
     ids.truncate(count);
     ids.shrink_to_fit();
     let _count = store.len();
-    Ok(Values::from(ids))
+    Ok(Layer::from(ids))
 }
 
 /// Works out one layer more: the values with a budget more.
@@ -282,7 +279,7 @@ fn add_layer(
     owner: Colour,
     store: &mut Store,
     memo: &mut Memo,
-    layers: &mut Vec<Values>,
+    layers: &mut Vec<Layer>,
     parts_limit: u32,
 ) -> Result<(), FormError>
     requires graph { (r : Region) × IsReturnGraphOf r graph.now
@@ -309,14 +306,14 @@ fn add_layer(
 }
 
 /// Whether two layers are the same.
-fn are_same(ids: &[GameId], others: &[GameId]) -> bool
+fn are_same(ids: &[ShortId], others: &[ShortId]) -> bool
     ensures { (result ≡ true) ↔ (ids.now ≡ others.now) }
 {
     ids == others
 }
 
 /// Whether the last layer is as the one before it.
-fn is_last_repeated(layers: &[Values]) -> bool
+fn is_last_repeated(layers: &[Layer]) -> bool
     requires { 2 ≤ length layers.now }
     ensures { (result ≡ true) ↔ (slice_index_or layers.now (length layers.now - 2) []
         ≡ slice_index_or layers.now (length layers.now - 1) []) }
@@ -332,7 +329,7 @@ fn add_layers(
     owner: Colour,
     store: &mut Store,
     memo: &mut Memo,
-    layers: &mut Vec<Values>,
+    layers: &mut Vec<Layer>,
     most: u8,
     parts_limit: u32,
 ) -> Result<(), BudgetError>

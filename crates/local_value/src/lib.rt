@@ -7,11 +7,13 @@ mod form_table;
 mod laws;
 mod memo;
 mod options;
+mod short_ids;
 mod steady_values;
 mod sum_table;
 mod values;
 
 pub use budgets::{BudgetError, value_steady};
 pub use laws::{budget_tree_laws, position_tree_laws, steady_values_laws};
-pub use steady_values::SteadyValues;
-pub use values::{Values, value_all};
+pub use short_ids::ShortId;
+pub use steady_values::{Layer, SteadyValues};
+pub use values::{Values, value_all, value_compact};

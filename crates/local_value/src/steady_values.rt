@@ -3,15 +3,19 @@
 ghost use Rattle.std.specs.Prelude.{ℕ, ◌≡◌, ◌+◌, ◌-◌, ◌<◌, [], ◌∷◌, ◌++◌, length, OnOk};
 ghost use Rattle.local_value.specs.BudgetValues.{layer_with};
 
-use crate::values::Values;
+use crate::short_ids::ShortId;
+use item_list::ItemList;
 use std::alloc::AllocError;
 use std::marker::Model;
+
+/// The ids of values with one budget, one for each position of a graph, by its place.
+pub type Layer = ItemList<ShortId>;
 
 /// The values of all positions with each budget up to the least at which the region is steady.
 #[derive(Drop)]
 pub struct SteadyValues {
     /// By budget, the values by place.
-    layers: Vec<Values>,
+    layers: Vec<Layer>,
 }
 
 impl Model for SteadyValues {
@@ -26,7 +30,7 @@ impl Model for SteadyValues {
 
 impl SteadyValues {
     /// The layers, by budget.
-    pub(crate) fn new(layers: Vec<Values>) -> SteadyValues
+    pub(crate) fn new(layers: Vec<Layer>) -> SteadyValues
         requires { 0 < length layers.items }
         ensures { result ≡ layers.items }
     {
@@ -41,7 +45,7 @@ impl SteadyValues {
     }
 
     /// The values with a budget. With one that is greater than the least steady one they are those with that.
-    pub fn with(&self, budget: usize) -> &Values
+    pub fn with(&self, budget: usize) -> &Layer
         ensures { result.now ≡ layer_with self.now budget }
     {
         if budget < self.layers.len() {
@@ -52,7 +56,7 @@ impl SteadyValues {
     }
 
     /// The values with the least budget at which the region is steady.
-    pub fn values(&self) -> &Values
+    pub fn values(&self) -> &Layer
         ensures { result.now ≡ layer_with self.now (length self.now - 1) }
     {
         self.with(self.budget())
@@ -60,7 +64,7 @@ impl SteadyValues {
 }
 
 /// Puts a layer behind the others.
-pub(crate) fn append(layers: &mut Vec<Values>, layer: Values) -> Result<(), AllocError>
+pub(crate) fn append(layers: &mut Vec<Layer>, layer: Layer) -> Result<(), AllocError>
     ensures { OnOk result (layers.new.items ≡ layers.old.items ++ layer ∷ []) }
 {
     Ok(layers.push(layer)?)

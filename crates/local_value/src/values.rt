@@ -17,13 +17,14 @@ ghost use Rattle.local_value.specs.inner.Valuing.{IsNoted, IsWithinAfter, AreWit
 
 use crate::memo::{Memo, form_of, with_stones};
 use crate::options::{add_option, folded, mixed};
+use crate::short_ids::{ShortId, lengthened, shortened};
 use crate::sum_table::SumTable;
 use dyadic_num::EXPONENT;
 use game_canon::FormError;
 use game_store::{GameId, Store};
 use go_grid::Colour;
 use item_list::ItemList;
-use local_graph::{Edge, Graph, MOST_POSITIONS};
+use local_graph::{CompactEdge, CompactGraph, Edge, Graph, MOST_POSITIONS};
 use std::alloc::{AllocError, Global};
 
 /// Ids of a store, one for each position of a graph, by its place.
@@ -47,7 +48,7 @@ fn value_after(
     alloc: Global,
     store: &mut Store,
     sums: &mut SumTable,
-    ids: &[GameId],
+    ids: &[ShortId],
     edge: &Edge,
 ) -> Result<GameId, AllocError>
     requires noted { IsNoted store.old ids.now edge.now.next }
@@ -58,7 +59,7 @@ fn value_after(
     ensures kept { Extends store.old store.new }
 {
     let _count = store.len();
-    let before = ids[edge.next];
+    let before = GameId::from(ids[edge.next]);
     if edge.taken == 0 {
         return Ok(before);
     }
@@ -78,8 +79,8 @@ fn list_options(
     alloc: Global,
     store: &mut Store,
     sums: &mut SumTable,
-    ids: &[GameId],
-    edges: &[Edge],
+    ids: &[ShortId],
+    edges: &[CompactEdge],
     options: &mut Vec<u32>,
 ) -> Result<u32, AllocError>
     requires noted { (e : Edge) → Contains edges.now e → IsNoted store.old ids.now e.next }
@@ -94,8 +95,9 @@ fn list_options(
     options.clear();
     let mut hash = 0;
     for edge in edges {
-        let after = value_after(alloc, store, sums, ids, edge)?;
-        let option = add_option(options, edge.colour, after)?;
+        let full = edge.edge();
+        let after = value_after(alloc, store, sums, ids, &full)?;
+        let option = add_option(options, full.colour, after)?;
         hash = mixed(hash, option);
     }
     Ok(folded(hash))
@@ -106,8 +108,8 @@ pub(crate) fn value_of(
     alloc: Global,
     store: &mut Store,
     memo: &mut Memo,
-    ids: &[GameId],
-    edges: &[Edge],
+    ids: &[ShortId],
+    edges: &[CompactEdge],
     parts_limit: u32,
 ) -> Result<GameId, FormError>
     requires noted { (e : Edge) → Contains edges.now e → IsNoted store.old ids.now e.next }
@@ -137,10 +139,10 @@ pub(crate) fn value_of(
 /// Puts the value of each position of a graph into its place.
 fn value_places(
     alloc: Global,
-    graph: &Graph,
+    graph: &CompactGraph,
     store: &mut Store,
     memo: &mut Memo,
-    ids: &mut Vec<GameId>,
+    ids: &mut Vec<ShortId>,
     parts_limit: u32,
 ) -> Result<(), FormError>
     requires graph { (r : Region) × IsGraphOf r graph.now }
@@ -162,9 +164,11 @@ fn value_places(
     ensures kept { Extends store.old store.new }
 {
     'valuing: for place in graph.order() {
-        let edges = graph.edges(*place);
+        let place = *place as usize;
+        let edges = graph.edges(place);
         let id = value_of(alloc, store, memo, ids, edges, parts_limit)?;
-        ids[*place] = id;
+        let short = shortened(id)?;
+        ids[place] = short;
     }
     let _count = store.len();
     Ok(())
@@ -174,9 +178,9 @@ fn value_places(
 /// stones that its move takes are added for the player who takes them. `Parts` where a value is no number and has more
 /// than `parts_limit` parts, and `Bounds` where a number of a value is past the bounds of a `Dyadic`. Every id of the store
 /// keeps its form, whatever the answer.
-pub fn value_all(
+pub fn value_compact(
     alloc: Global,
-    graph: &Graph,
+    graph: &CompactGraph,
     store: &mut Store,
     parts_limit: u32,
 ) -> Result<Values, FormError>
@@ -201,5 +205,32 @@ pub fn value_all(
     let valued = value_places(alloc, graph, store, &mut memo, &mut ids, parts_limit);
     drop(memo);
     valued?;
-    Ok(Values::from(ids))
+    let long = lengthened(alloc, &ids)?;
+    Ok(Values::from(long))
+}
+
+/// The values of all positions of a graph, as `value_compact` gives them.
+pub fn value_all(
+    alloc: Global,
+    graph: &Graph,
+    store: &mut Store,
+    parts_limit: u32,
+) -> Result<Values, FormError>
+    requires graph { (r : Region) × IsGraphOf r graph.now }
+    requires few { length graph.now.positions ≤ MOST_POSITIONS }
+    ensures values { IfOk result (λ values. (r : Region) → IsGraphOf r graph.now
+        → AreValues r graph.now store.new values) }
+    ensures sizes { IfOk result (λ values. (r : Region) → IsGraphOf r graph.now → (i : ℕ)
+        → i < length values
+        → AreWithin ((length graph.now.positions * length r.cells) * 2 ^ EXPONENT)
+        (tree_at store.new (slice_index values i))) }
+    ensures parts { IfOk result (λ values. (i : ℕ) → i < length values
+        → HasMoreParts (tree_at store.new (slice_index values i)) parts_limit → ⊥) }
+    ensures bounds { IfOk result (λ values. (i : ℕ) → i < length values
+        → HasNumberPastBounds (tree_at store.new (slice_index values i)) → ⊥) }
+    ensures refusal { IfErr result (λ error. (r : Region) → IsGraphOf r graph.now
+        → IsValueRefusal r graph.now parts_limit error) }
+    ensures kept { Extends store.old store.new }
+{
+    value_compact(alloc, graph.compact(), store, parts_limit)
 }

@@ -77,7 +77,7 @@ await_new-requires g c =
       arith,
       c.len.ensures,
       found.ok,
-      length-set spans c.in-Some.place (record { start = c.len-first.result; end = c.len-end.result }),
+      length-set spans c.in-Some.place c.in_ok-span.span,
       length-map spans (part c.exploring.found.edges.items),
       s.beside,
       more,
@@ -87,8 +87,9 @@ pub exploring-preserved : goal.exploring-preserved
 exploring-preserved g c =
     let edges = c.exploring.found.edges.items in
     let after = c.list_position.new.edges in
-    let from : c.len-first.result ≡ length edges = omega (arith, c.len-first.ensures, c.exploring.found.edges.ok) in
-    let to : c.len-end.result ≡ length after.items = omega (arith, c.len-end.ensures, after.ok) in
+    let span : Span = c.in_ok-span.span in
+    let from : span.start ≡ length edges = omega (arith, ap (λ (s : Span). s.start) c.in_ok-span.ensures, c.len-first.ensures, c.exploring.found.edges.ok) in
+    let to : span.end ≡ length after.items = omega (arith, ap (λ (s : Span). s.end) c.in_ok-span.ensures, c.len-end.ensures, after.ok) in
     let found = c.list_position.new.table.positions in
     let count : c.len.result ≡ length found.items = omega (arith, c.len.ensures, found.ok) in
     let u = c.exploring.invariant.under_way in
@@ -99,7 +100,6 @@ exploring-preserved g c =
     let listed = c.in_ok-list_position.ensures.edges c.args.region.now.touch next.cells c.of-links.ensures.table full next.packed in
     let behind = drop (length edges) after.items in
     let spans = c.exploring.found.spans.items in
-    let span : Span = record { start = c.len-first.result; end = c.len-end.result } in
     let put = lists_put edges behind after.items spans _ span c.in-Some.place u.within c.in_ok-list_position.ensures.behind refl from to in
     let within = within_put edges behind after.items spans _ span c.in-Some.place u.within c.in_ok-list_position.ensures.behind refl from to in
     let awaited = c.in_ok-await_new.ensures.awaited after.items in
@@ -145,8 +145,8 @@ exploring-smaller g c =
       awaited.many,
       c.len.ensures,
       found.ok,
-      length-set spans c.in-Some.place (record { start = c.len-first.result; end = c.len-end.result }),
-      length-map (set spans c.in-Some.place (record { start = c.len-first.result; end = c.len-end.result })) (part after),
+      length-set spans c.in-Some.place c.in_ok-span.span,
+      length-map (set spans c.in-Some.place c.in_ok-span.span) (part after),
       length-map spans (part c.exploring.found.edges.items),
       s.beside,
       ap length c.in-Some.ensures.items,
@@ -155,6 +155,9 @@ exploring-smaller g c =
 
 pub returns-in_err-await_new-clause-ended : goal.returns-in_err-await_new-clause-ended
 returns-in_err-await_new-clause-ended g c = let p = err_from_is_err_and c.from_residual-in_err-await_new.result c.from_residual-in_err-await_new.ensures.1 in rw (p.1, p.2) tt
+
+pub returns-in_err-span-clause-ended : goal.returns-in_err-span-clause-ended
+returns-in_err-span-clause-ended g c = let p = err_from_is_err_and c.from_residual-in_err-span.result c.from_residual-in_err-span.ensures.1 in rw (p.1, p.2) tt
 
 pub returns-in_err-list_position-clause-limited : goal.returns-in_err-list_position-clause-limited
 returns-in_err-list_position-clause-limited g c = omega (arith, c.list_position.ensures.step, c.exploring.invariant.counted, ap length c.in-Some.ensures.items, length_push c.pop.new.self.items c.in-Some.place, c.exploring.invariant.under_way.so_far.few)
@@ -167,8 +170,16 @@ returns-in_err-list_position-clause-finite g c =
 pub returns-in_err-await_new-clause-limited : goal.returns-in_err-await_new-clause-limited
 returns-in_err-await_new-clause-limited g c = omega (arith, c.list_position.ensures.step, c.exploring.invariant.counted, ap length c.in-Some.ensures.items, length_push c.pop.new.self.items c.in-Some.place, c.exploring.invariant.under_way.so_far.few)
 
+pub returns-in_err-span-clause-limited : goal.returns-in_err-span-clause-limited
+returns-in_err-span-clause-limited g c = omega (arith, c.list_position.ensures.step, c.exploring.invariant.counted, ap length c.in-Some.ensures.items, length_push c.pop.new.self.items c.in-Some.place, c.exploring.invariant.under_way.so_far.few)
+
 pub returns-in_err-await_new-clause-finite : goal.returns-in_err-await_new-clause-finite
 returns-in_err-await_new-clause-finite g c =
+    let fewer = few_numbers c.args.region.now.touch c.args.region.now.cells c.args.limit (length c.args.region.now.points) _ _ _ c.exploring.invariant.under_way.so_far c.exploring.invariant.under_way.full in
+    omega (arith, c.list_position.ensures.step, c.exploring.invariant.counted, ap length c.in-Some.ensures.items, length_push c.pop.new.self.items c.in-Some.place, fewer)
+
+pub returns-in_err-span-clause-finite : goal.returns-in_err-span-clause-finite
+returns-in_err-span-clause-finite g c =
     let fewer = few_numbers c.args.region.now.touch c.args.region.now.cells c.args.limit (length c.args.region.now.points) _ _ _ c.exploring.invariant.under_way.so_far c.exploring.invariant.under_way.full in
     omega (arith, c.list_position.ensures.step, c.exploring.invariant.counted, ap length c.in-Some.ensures.items, length_push c.pop.new.self.items c.in-Some.place, fewer)
 

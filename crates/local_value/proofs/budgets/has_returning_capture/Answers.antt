@@ -5,6 +5,7 @@ use Rattle.std.proofs.lemmas.List.Elements.{Contains-get_or, Contains-push_cases
 use Rattle.local_graph.specs.declared.graph.Edge.{Edge}
 use Rattle.local_graph.specs.inner.Graph.{edges_at, no_edge}
 use Rattle.local_graph.specs.ReturnGraph.{IsReturningCaptureAt, StaysIn}
+use Rattle.local_graph.proofs.EdgeListLemmas.{edge_read}
 use Rattle.local_value.proofs.budgets.has_returning_capture.Goals as goal
 
 pub returns-then-not-has_cycle : goal.returns-then-not-has_cycle
@@ -15,8 +16,10 @@ pub is_returning_capture-requires-clause-next : goal.is_returning_capture-requir
 is_returning_capture-requires-clause-next c =
     let same : c.edges-edge-items.result.now ≡ edges_at c.args.graph.now.edges c.args.place =
     c.edges-edge-items.ensures ∙ ap (λ (z : List (List Edge)). slice_index_or z c.args.place []) c.graph.ensures.edges in
-    c.requires.next _ (subst (λ es. Contains es (get_or c.edges-edge-items.result.now c.loop-edge.edge-index no_edge)) same
-    (Contains-get_or c.edges-edge-items.result.now c.loop-edge.edge-index no_edge c.loop-edge-test.true))
+    subst (λ (e : Edge). e.next < length c.args.graph.now.positions)
+    (sym (edge_read c.edges-edge-items.result.now c.loop-edge-test.true c.edge-item.is c.edge.ensures))
+    (c.requires.next _ (subst (λ es. Contains es (get_or c.edges-edge-items.result.now c.loop-edge.edge-index no_edge)) same
+    (Contains-get_or c.edges-edge-items.result.now c.loop-edge.edge-index no_edge c.loop-edge-test.true)))
 
 pub loop-edge-preserved : goal.loop-edge-preserved
 loop-edge-preserved c = λ e among captures.
@@ -27,8 +30,9 @@ loop-edge-preserved c = λ e among captures.
     elim (Contains-push_cases (take c.loop-edge.edge-index es) (get_or es c.loop-edge.edge-index no_edge) e
     (subst (λ z. Contains z e) (take_more es c.loop-edge.edge-index no_edge short) among)) [
       | inl before ↦ c.loop-edge.invariant e before captures
-      | inr here ↦ true≢false (sym (c.is_returning_capture.ensures.1 (subst (λ z. IsReturningCaptureAt c.args.owner c.args.graph.now.components c.args.place
-          (get_or z c.loop-edge.edge-index no_edge)) (sym same) (subst (IsReturningCaptureAt c.args.owner c.args.graph.now.components c.args.place) (sym here) captures)))
+      | inr here ↦ true≢false (sym (c.is_returning_capture.ensures.1 (subst (IsReturningCaptureAt c.args.owner c.args.graph.now.components c.args.place)
+          (sym (edge_read c.edges-edge-items.result.now c.loop-edge-test.true c.edge-item.is c.edge.ensures)) (subst (λ z. IsReturningCaptureAt c.args.owner c.args.graph.now.components c.args.place
+          (get_or z c.loop-edge.edge-index no_edge)) (sym same) (subst (IsReturningCaptureAt c.args.owner c.args.graph.now.components c.args.place) (sym here) captures))))
           ∙ c.if-is_returning_capture.false)
     ]
 

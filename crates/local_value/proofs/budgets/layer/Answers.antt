@@ -1,10 +1,10 @@
-use Rattle.std.proofs.Common.{ℕ, ◌⊎◌, ◌≡◌, arith, refl, sym, ap, ◌∙◌, subst, get_or, length, take, List}
+use Rattle.std.proofs.Common.{ℕ, ◌+◌, ◌⊎◌, ◌≡◌, arith, refl, sym, ap, ◌∙◌, subst, get_or, length, set, take, List}
 use Rattle.std.proofs.lemmas.Result.{err_from_is_err_and}
 use Rattle.go_grid.specs.Region.{Region}
 use Rattle.game_canon.proofs.ChangedIdLaws.{extends-on, passed-on}
 use Rattle.local_value.specs.BudgetValues.{IsReturnGraphOf, IsPastLimits}
 use Rattle.local_value.specs.inner.Layers.{IsLayer, AreLayers, IsKept, IsMade, IsRoom}
-use Rattle.local_value.proofs.LayerPassLaws.{layer-call, layer-done, layer-place, layer-start}
+use Rattle.local_value.proofs.LayerPassLaws.{IsLayerPass, layer-call, layer-done, layer-place, layer-start}
 use Rattle.local_value.proofs.SteadyLaws.{layer-limits}
 use Rattle.local_value.proofs.budgets.layer.Goals as goal
 
@@ -64,12 +64,14 @@ index_mut-requires c =
 pub valuing-preserved : goal.valuing-preserved
 valuing-preserved c = record {
   kept = extends-on _ _ _ c.valuing.invariant.kept c.id_of.ensures.kept;
-  pass = λ r of before.
-      (layer-call of (c.valuing.invariant.pass r of before) c.order-place-items.ensures c.deref.ensures.value
+  pass = λ r of before. subst (λ id. IsLayerPass r c.args.graph.now c.args.owner c.args.parts_limit (length c.args.layers.now) c.has_layer-has_budget.result
+      c.id_of.new.store (set c.valuing.ids.items (get_or c.order-place-items.result.now c.valuing.place-index 0) id) (c.valuing.place-index + 1))
+      (sym c.in_ok-short.ensures)
+      ((layer-call of (c.valuing.invariant.pass r of before) c.order-place-items.ensures c.deref.ensures.value
       refl c.valuing-test.true c.in_ok-edges.ensures).step
       c.id_of.new.store c.in_ok-id.id c.id_of.ensures.kept
       (subst (λ n. IsKept n c.deref.result.now (get_or c.order-place-items.result.now c.valuing.place-index 0) c.in_ok-edges.edges.now c.in_ok-id.id ⊎ IsMade c.valuing.store c.id_of.new.store c.deref.result.now
-      c.args.parts_limit c.in_ok-edges.edges.now c.in_ok-id.id) (c.len-count.ensures ∙ ap (λ (z : List ℕ). length z) c.graph.ensures.positions) c.in_ok-id.ensures.id);
+      c.args.parts_limit c.in_ok-edges.edges.now c.in_ok-id.id) (c.len-count.ensures ∙ ap (λ (z : List ℕ). length z) c.graph.ensures.positions) c.in_ok-id.ensures.id));
   memo = c.in_ok-id.ensures.memo;
 }
 

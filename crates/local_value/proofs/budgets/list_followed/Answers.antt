@@ -1,7 +1,9 @@
-use Rattle.std.proofs.Common.{◌≡◌, ap, ◌∙◌, subst, [], slice_index_or, Contains, List, None, Some}
+use Rattle.std.proofs.Common.{◌≡◌, ◌<◌, refl, sym, length, ap, ◌∙◌, subst, [], slice_index_or, Contains, List, None, Some}
 use Rattle.std.proofs.lemmas.List.Elements.{Contains-get_or}
 use Rattle.local_graph.specs.declared.graph.Edge.{Edge}
 use Rattle.local_graph.specs.inner.Graph.{edges_at, no_edge}
+use Rattle.local_graph.proofs.EdgeListLemmas.{edge_read}
+use Rattle.local_value.specs.inner.Layers.{IsFollowed}
 use Rattle.local_value.proofs.LayerLaws.{followed-on}
 use Rattle.local_value.proofs.budgets.list_followed.Goals as goal
 use Rattle.local_value.proofs.budgets.list_followed.Goals.{in-Some+in_ok-push-in-Some, in-None}
@@ -10,17 +12,20 @@ pub followed-requires-clause-next : goal.followed-requires-clause-next
 followed-requires-clause-next c =
     let same : c.edges-edge-items.result.now ≡ edges_at c.args.graph.now.edges c.args.place =
     c.edges-edge-items.ensures ∙ ap (λ (z : List (List Edge)). slice_index_or z c.args.place []) c.graph.ensures.edges in
-    c.requires.next _ (subst (λ es. Contains es (slice_index_or c.edges-edge-items.result.now c.loop-edge.edge-index no_edge)) same
-    (Contains-get_or c.edges-edge-items.result.now c.loop-edge.edge-index no_edge c.loop-edge-test.true))
+    subst (λ (e : Edge). e.next < length c.args.graph.now.positions)
+    (sym (edge_read c.edges-edge-items.result.now c.loop-edge-test.true c.edge-item.is refl))
+    (c.requires.next _ (subst (λ es. Contains es (slice_index_or c.edges-edge-items.result.now c.loop-edge.edge-index no_edge)) same
+    (Contains-get_or c.edges-edge-items.result.now c.loop-edge.edge-index no_edge c.loop-edge-test.true)))
 
 pub loop-edge-preserved : goal.loop-edge-preserved
 loop-edge-preserved c =
     let edges = edges_at c.args.graph.now.edges c.args.place in
     let same : c.edges-edge-items.result.now ≡ edges =
     c.edges-edge-items.ensures ∙ ap (λ (z : List (List Edge)). slice_index_or z c.args.place []) c.graph.ensures.edges in
+    let it = edge_read c.edges-edge-items.result.now c.loop-edge-test.true c.edge-item.is refl in
     elim c.match-followed.branch [
       | in-Some+in_ok-push-in-Some w ↦ followed-on edges c.loop-edge.edges.items _ c.loop-edge.edge-index (Some w.in-Some.edge) _ same c.loop-edge.invariant
-          c.loop-edge-test.true (w.in-Some.ensures {u = tt}) (ap (λ v. v.items) w.edges-is ∙ (w.in_ok-push-in-Some.ensures {u = tt}).items)
+          c.loop-edge-test.true (subst (λ (e : Edge). IsFollowed c.args.owner c.args.graph.now.components c.args.place (length c.args.graph.now.positions) c.args.has_budget e (Some w.in-Some.edge)) it (w.in-Some.ensures {u = tt})) (ap (λ v. v.items) w.edges-is ∙ (w.in_ok-push-in-Some.ensures {u = tt}).items)
       | in-None w ↦ followed-on edges c.loop-edge.edges.items _ c.loop-edge.edge-index None _ same c.loop-edge.invariant
-          c.loop-edge-test.true (w.in-None.ensures {u = tt}) (ap (λ v. v.items) w.edges-is)
+          c.loop-edge-test.true (subst (λ (e : Edge). IsFollowed c.args.owner c.args.graph.now.components c.args.place (length c.args.graph.now.positions) c.args.has_budget e None) it (w.in-None.ensures {u = tt})) (ap (λ v. v.items) w.edges-is)
     ]

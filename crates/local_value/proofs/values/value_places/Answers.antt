@@ -1,11 +1,11 @@
-use Rattle.std.proofs.Common.{arith, refl}
+use Rattle.std.proofs.Common.{◌+◌, arith, get_or, refl, set, subst, sym}
 use Rattle.std.proofs.lemmas.Result.{err_from_is_err_and}
 use Rattle.go_grid.specs.Region.{Region}
 use Rattle.game_canon.proofs.ChangedIdLaws.{extends-on, passed-on}
 use Rattle.game_canon.proofs.NumberPartLaws.{within-bounds}
 use Rattle.local_value.specs.Refusals.{IsValueRefusal}
 use Rattle.local_value.specs.Values.{IsGraphOf}
-use Rattle.local_value.proofs.PassLaws.{call, pass-parts, pass-sizes, pass-values}
+use Rattle.local_value.proofs.PassLaws.{IsPass, call, pass-parts, pass-sizes, pass-values}
 use Rattle.local_value.proofs.values.value_places.Goals as goal
 
 pub valuing-init : goal.valuing-init
@@ -25,9 +25,10 @@ value_of-requires c =
 pub valuing-preserved : goal.valuing-preserved
 valuing-preserved c = record {
   kept = extends-on _ _ _ c.valuing.invariant.kept c.value_of.ensures.kept;
-  pass = λ r of.
-      (call of (c.valuing.invariant.pass r of) c.order-place-items.ensures c.edges-edges.ensures c.deref.ensures.value c.valuing-test.true).step
-      c.value_of.new.store c.in_ok-id.id c.value_of.ensures.kept c.in_ok-id.ensures.value c.in_ok-id.ensures.sizes c.in_ok-id.ensures.parts;
+  pass = λ r of. subst (λ id. IsPass r c.args.graph.now c.args.parts_limit c.value_of.new.store
+      (set c.valuing.ids.items (get_or c.order-place-items.result.now c.valuing.place-index 0) id) (c.valuing.place-index + 1)) (sym c.in_ok-short.ensures)
+      ((call of (c.valuing.invariant.pass r of) c.order-place-items.ensures c.edges-edges.ensures c.deref.ensures.value c.valuing-test.true).step
+      c.value_of.new.store c.in_ok-id.id c.value_of.ensures.kept c.in_ok-id.ensures.value c.in_ok-id.ensures.sizes c.in_ok-id.ensures.parts);
   memo = c.in_ok-id.ensures.memo;
 }
 
@@ -58,3 +59,6 @@ returns-clause-bounds c =
 
 pub returns-in_err-id-clause-kept : goal.returns-in_err-id-clause-kept
 returns-in_err-id-clause-kept c = extends-on _ _ _ c.valuing.invariant.kept c.value_of.ensures.kept
+
+pub returns-in_err-short-clause-kept : goal.returns-in_err-short-clause-kept
+returns-in_err-short-clause-kept c = extends-on _ _ _ c.valuing.invariant.kept c.value_of.ensures.kept

@@ -40,5 +40,6 @@ returns c =
     ids_seen book c.args.number c.self.view_is c.requires.number c.self.invariant v c.index-game.result.now c.index-view.ensures c.index-game.ensures
     c.args.player c.args.budget ids here in
     let short : c.args.place < length ids = omega (arith, c.requires.place, ap (λ (z : List ℕ). length z) all, length-map ids own) in
-    c.id_after.ensures ∙ ap (λ known. id_after v.colours known (get_or ids c.args.place 0)) c.deref.ensures.value
+    c.id_after.ensures ∙ ap (id_after v.colours c.deref.result.now) c.from.ensures
+    ∙ ap (λ known. id_after v.colours known (get_or ids c.args.place 0)) c.deref.ensures.value
     ∙ sym (get_or-map own ids c.args.place 0 0 short) ∙ sym (ap (λ (z : List ℕ). get_or z c.args.place 0) all)

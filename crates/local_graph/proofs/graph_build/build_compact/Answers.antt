@@ -1,7 +1,7 @@
 use Rattle.std.proofs.Common.{arith, ap, sym, ◌∙◌, length, ◌≤◌, ◌≡◌}
 use Rattle.std.proofs.lemmas.Result.{err_from_is_err_and}
 use Rattle.local_graph.proofs.BuildLemmas.{few_points, rooted, built_or_cycle, ordered_count, refused}
-use Rattle.local_graph.proofs.graph_build.build.Goals as goal
+use Rattle.local_graph.proofs.graph_build.build_compact.Goals as goal
 
 pub overflow_cast-result : goal.overflow_cast-result
 overflow_cast-result g c =
