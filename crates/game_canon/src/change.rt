@@ -129,7 +129,8 @@ fn changed_form(
 ) -> Result<GameId, FormError>
     requires id { id < length store.old }
     requires ascends { IsAscending changed.now.ids.now }
-    requires noted { AreNoted store.old (noted changed.now.ids.now changed.now.afters.now) change id }
+    requires noted { AreNoted store.old
+        (noted changed.now.ids.now changed.now.afters.now) change id }
     ensures value { IfOk result (λ k. IsChanged store.new change (tree_at store.old id) k) }
     ensures refusal { IfErr result (λ error. IsRefusedAt change (tree_at store.old id) error) }
     ensures kept { Extends store.old store.new }
