@@ -34,13 +34,6 @@ pub struct Present<'a> {
     pub store: &'a Store,
 }
 
-/// Whether the two are the same.
-fn is_same(a: Colour, b: Colour) -> bool
-    ensures { IsTrue result ↔ (a ≡ b) }
-{
-    a == b
-}
-
 /// Whether it isn't so.
 pub(crate) fn is_not(lost: bool) -> bool
     ensures { IsTrue result ↔ (¬ IsTrue lost) }
@@ -66,7 +59,7 @@ pub(crate) fn wins_sum(
     ensures fits { Fits store.now search.new }
 {
     let lost = search.loses(store, sum, balance_of(purses), side);
-    if is_same(side, player) {
+    if side.is(player) {
         return is_not(lost);
     }
     lost

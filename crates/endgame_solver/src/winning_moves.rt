@@ -36,13 +36,6 @@ pub(crate) struct Present<'a> {
     pub store: &'a Store,
 }
 
-/// Whether the two are the same.
-fn is_same(a: Colour, b: Colour) -> bool
-    ensures { IsTrue result ↔ (a ≡ b) }
-{
-    a == b
-}
-
 /// Whether the point stands at the place.
 fn is_at(points: &[Point], place: usize, point: Point) -> bool
     ensures { IsTrue result ↔ ((place < length points.now)
@@ -58,7 +51,7 @@ fn is_at(points: &[Point], place: usize, point: Point) -> bool
 pub fn is_stone_at(region: &Region, edge: Edge, point: Point, colour: Colour) -> bool
     ensures { IsTrue result ↔ IsStoneAt region.now colour point edge }
 {
-    if !is_same(edge.colour, colour) {
+    if !edge.colour.is(colour) {
         return false;
     }
     is_at(&region.points, usize::from(edge.place), point)

@@ -87,6 +87,13 @@ impl Colour {
             Colour::White => Colour::Black,
         }
     }
+
+    /// Whether the two colours are the same.
+    pub fn is(self, other: Colour) -> bool
+        ensures { (result ≡ true) ↔ (self ≡ other) }
+    {
+        self == other
+    }
 }
 
 impl Cell {

@@ -23,13 +23,6 @@ use std::alloc::AllocError;
 use std::mem;
 use std::sync::ledger::Ledger;
 
-/// Whether the two are the same.
-fn is_same(a: Colour, b: Colour) -> bool
-    ensures { (result ≡ true) ↔ (a ≡ b) }
-{
-    a == b
-}
-
 impl Engine {
     /// A turn of the colour in the running game.
     fn go_on(&mut self, id: &[u8], colour: Colour, action: Action) -> Result<Text, AllocError>
@@ -42,7 +35,7 @@ impl Engine {
         let alloc = self.setup.board().allocator();
         match &mut self.game {
             Some(game) => {
-                if !is_same(game.whole().side(), colour) {
+                if !game.whole().side().is(colour) {
                     let reply = refuse(alloc, id, Refusal::NotInTurn)?;
                     return Ok(reply);
                 }

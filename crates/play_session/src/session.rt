@@ -44,13 +44,6 @@ pub(crate) enum Request {
     Line(Option<Move>),
 }
 
-/// Whether the two are the same.
-fn is_same(a: Colour, b: Colour) -> bool
-    ensures { (result ≡ true) ↔ (a ≡ b) }
-{
-    a == b
-}
-
 /// Writes a line.
 fn say<K: Sink>(out: &mut K, line: &Reply) -> Result<(), Fault>
     ensures bytes { Appends (K.holds out.old) (K.holds out.new) result line.now }
@@ -77,7 +70,7 @@ fn end_game<K: Sink>(
         Err(fault) => return Err(fault),
         Ok(()) => {}
     }
-    if is_same(winner, engine) {
+    if winner.is(engine) {
         return Ok(Some(SessionEnd::Won));
     }
     Ok(Some(SessionEnd::Lost))
@@ -265,7 +258,7 @@ impl Session {
             None => return end_game(side.other(), self.engine, out),
             Some(_) => {}
         }
-        if !is_same(side, self.engine) {
+        if !side.is(self.engine) {
             return self.opponent_turn(read, lines, out);
         }
         match move_engine(&mut self.player, out) {

@@ -8,13 +8,6 @@ use crate::states::{Move, Whole};
 use go_grid::Colour;
 use std::alloc::{AllocError, Global};
 
-/// Whether the two are the same.
-fn is_same(a: Colour, b: Colour) -> bool
-    ensures { (result ≡ true) ↔ (a ≡ b) }
-{
-    a == b
-}
-
 /// The state after a legal move.
 fn after(state: &Whole, chosen: Move) -> Result<Whole, AllocError>
     requires legal { IsLegal state.now chosen }
@@ -50,7 +43,7 @@ fn winner_within(alloc: Global, state: &Whole, depth: u32) -> Result<Option<Colo
         let next = after(state, *chosen)?;
         match winner_within(alloc, &next, depth - 1)? {
             Some(winner) => {
-                if is_same(winner, side) {
+                if winner.is(side) {
                     return Ok(Some(side));
                 }
             }

@@ -5,10 +5,10 @@ use Rattle.cycle_solver.proofs.asking.wins_sum.Goals as goal
 pub loses-lost-requires-clause-bounds : goal.loses-lost-requires-clause-bounds
 loses-lost-requires-clause-bounds c = sum_bounded c.requires.games c.requires.purses c.balance_of.ensures
 
-pub returns-then-is_same-clause-wins : goal.returns-then-is_same-clause-wins
-returns-then-is_same-clause-wins c =
-    mover_wins c.args.store.now c.args.sum.now c.args.purses c.balance_of.ensures c.args.side c.args.player c.loses-lost.ensures.answer c.is_not.ensures (c.is_same.ensures.0 c.if-is_same.true)
+pub returns-then-is-clause-wins : goal.returns-then-is-clause-wins
+returns-then-is-clause-wins c =
+    mover_wins c.args.store.now c.args.sum.now c.args.purses c.balance_of.ensures c.args.side c.args.player c.loses-lost.ensures.answer c.is_not.ensures (c.is.ensures.0 c.if-is.true)
 
 pub returns-clause-wins : goal.returns-clause-wins
 returns-clause-wins c =
-    other_wins c.args.store.now c.args.sum.now c.args.purses c.balance_of.ensures c.args.side c.args.player c.loses-lost.ensures.answer (λ e. both_ways c.is_same.result c.if-is_same.false (c.is_same.ensures.1 e))
+    other_wins c.args.store.now c.args.sum.now c.args.purses c.balance_of.ensures c.args.side c.args.player c.loses-lost.ensures.answer (λ e. both_ways c.is.result c.if-is.false (c.is.ensures.1 e))

@@ -8,7 +8,7 @@ use Rattle.whole_rules.specs.WholeGame.{Whole, Leads, IsMove, ListsMoves}
 use Rattle.whole_rules.specs.declared.states.Move.TheVariants.{Half}
 use Rattle.whole_rules.proofs.PlainLaws.{none_lost, some_open, listed_legal, move_grows, outcome_mine, outcome_theirs, looked_wins, looked_open, looked_done}
 use Rattle.whole_rules.proofs.plain.+winner_within.Goals as goal
-use Rattle.whole_rules.proofs.plain.+winner_within.Goals.{in-Some+else-is_same, in-None}
+use Rattle.whole_rules.proofs.plain.+winner_within.Goals.{in-Some+else-is, in-None}
 
 pub returns-then-is_empty : goal.returns-then-is_empty
 returns-then-is_empty t c =
@@ -32,10 +32,10 @@ winner_within-requires t c =
     let g = move_grows c.args.state.now c.in_ok-next.next c.chosen-item.result (omega (arith, c.size-size.ensures.most, ap (λ b. length b.cells) c.board.ensures)) c.in_ok-next.ensures in
     (omega (arith, c.if-depth-eq0.false, c.decreases), (omega (arith, g.black, c.requires.black, c.if-depth-eq0.false), omega (arith, g.white, c.requires.white, c.if-depth-eq0.false)))
 
-pub returns-then-is_same : goal.returns-then-is_same
-returns-then-is_same t c =
+pub returns-then-is : goal.returns-then-is
+returns-then-is t c =
     let d : 0 < c.args.depth = omega (arith, c.if-depth-eq0.false) in
-    let same = c.is_same.ensures.0 c.if-is_same.true ∙ c.side-side.ensures in
+    let same = c.is.ensures.0 c.if-is.true ∙ c.side-side.ensures in
     inl (c.side-side.ensures, outcome_mine c.args.state.now c.in_ok-next.next c.chosen-item.result c.args.depth c.in-Some.winner d c.in_ok-next.ensures (rw c.in-Some.is at c.in_ok-winner.ensures) same)
 
 pub loop-chosen-preserved : goal.loop-chosen-preserved
@@ -46,10 +46,10 @@ loop-chosen-preserved t c =
     let k = c.loop-chosen.chosen-index in
     let m = subst (λ z. IsMove s z c.in_ok-next.next) (c.chosen-item.is ∙ get_or_default ms k _ Half (omega (arith, c.loop-chosen-test.true))) c.in_ok-next.ensures in
     elim c.match-branch-4.branch [
-      | in-Some+else-is_same w ↦
+      | in-Some+else-is w ↦
           rw w.decided-is (looked_wins s c.in_ok-next.next n ms k _ c.loop-chosen.invariant m
           (outcome_theirs s c.in_ok-next.next c.chosen-item.result n w.in-Some.winner c.in_ok-next.ensures (rw w.in-Some.is at c.in_ok-winner.ensures)
-          (λ e. both_ways _ w.if-is_same.false (w.is_same.ensures.1 (e ∙ sym c.side-side.ensures)))))
+          (λ e. both_ways _ w.if-is.false (w.is.ensures.1 (e ∙ sym c.side-side.ensures)))))
       | in-None w ↦ (let o = rw w.in-None.is at c.in_ok-winner.ensures in rw w.decided-is (looked_open s c.in_ok-next.next n ms k _ c.loop-chosen.invariant m o.0 o.1))
     ]
 

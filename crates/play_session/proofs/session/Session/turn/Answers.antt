@@ -38,11 +38,11 @@ returns-in-None-clause-keeps g c = λ w.
     let winner = c.other.ensures ∙ ap other (c.side-side.ensures ∙ ap (λ s. s.side) c.whole.ensures) in
     (w, end_keeps i.player.state i.engine c.other.result c.end_game.result (subst (λ v. IsWinner v.game.state v.engine) (sym c.self.view_is) w) none winner c.end_game.ensures.end)
 
-pub returns-then-not-is_same-clause-keeps : goal.returns-then-not-is_same-clause-keeps
-returns-then-not-is_same-clause-keeps g c = λ w.
+pub returns-then-not-is-clause-keeps : goal.returns-then-not-is-clause-keeps
+returns-then-not-is-clause-keeps g c = λ w.
     let i = c.self.inside in
     let side = c.side-side.ensures ∙ ap (λ s. s.side) c.whole.ensures ∙ ap (λ v. v.game.state.side) c.self.view_is in
-    let turn = sym side ∙ not_other c.side-side.result c.args.self.now.engine (λ same. absurd (cc (sym c.if-not-is_same.true ∙ c.is_same.ensures.1 (same ∙ sym (ap (λ v. v.engine) c.self.view_is))))) in
+    let turn = sym side ∙ not_other c.side-side.result c.args.self.now.engine (λ same. absurd (cc (sym c.if-not-is.true ∙ c.is.ensures.1 (same ∙ sym (ap (λ v. v.engine) c.self.view_is))))) in
     (opponent_keeps c.args.self.now.game.state c.opponent_turn.new.self.game.state c.args.self.now.engine turn w c.opponent_turn.ensures.stepped, c.opponent_turn.ensures.never_lost)
 
 pub returns-in-Err-clause-written : goal.returns-in-Err-clause-written
@@ -50,7 +50,7 @@ returns-in-Err-clause-written g c = λ bytes e.
     let i = c.self.inside in let before = g.K.Sink.holds c.args.out.now in let now = g.K.Sink.holds c.move_engine.new.out in let left = g.S.Source.left c.args.lines.now in
     let session : Session = record { game = i.player; engine = i.engine; held = i.input } in
     let new : Session = record { game = c.move_engine.new.player; engine = i.engine; held = i.input } in
-    let turn = sym (c.side-side.ensures ∙ ap (λ s. s.side) c.whole.ensures) ∙ c.is_same.ensures.0 c.if-not-is_same.false in
+    let turn = sym (c.side-side.ensures ∙ ap (λ s. s.side) c.whole.ensures) ∙ c.is.ensures.0 c.if-not-is.false in
     let m = c.in-Err.ensures.moved in
     subst (λ v. TurnWritten v.engine (standing v c.args.read.now bytes) before now (Err c.in-Err.fault) new c.args.read.now left) c.self.view_is
     (engine_failed session c.args.read.now bytes left before now c.move_engine.new.player m.0 c.in-Err.fault new turn m.1 (λ k. c.in-Err.ensures.cause.not_read (ap Err k)) m.2)
@@ -58,14 +58,14 @@ returns-in-Err-clause-written g c = λ bytes e.
 pub returns-in-Err-clause-keeps : goal.returns-in-Err-clause-keeps
 returns-in-Err-clause-keeps g c = λ w.
     let i = c.self.inside in let m = c.move_engine.ensures.moved in
-    let turn = sym (c.side-side.ensures ∙ ap (λ s. s.side) c.whole.ensures) ∙ c.is_same.ensures.0 c.if-not-is_same.false in
+    let turn = sym (c.side-side.ensures ∙ ap (λ s. s.side) c.whole.ensures) ∙ c.is.ensures.0 c.if-not-is.false in
     let kept = engine_keeps i.player c.move_engine.new.player i.engine m.0 turn (subst (λ v. IsWinner v.game.state v.engine) (sym c.self.view_is) w) m.1 in
     (subst (λ v. IsWinner c.move_engine.new.player.state v.engine) c.self.view_is kept, λ n. absurd (cc n))
 
 pub returns-clause-keeps : goal.returns-clause-keeps
 returns-clause-keeps g c = λ w.
     let i = c.self.inside in let m = c.move_engine.ensures.moved in
-    let turn = sym (c.side-side.ensures ∙ ap (λ s. s.side) c.whole.ensures) ∙ c.is_same.ensures.0 c.if-not-is_same.false in
+    let turn = sym (c.side-side.ensures ∙ ap (λ s. s.side) c.whole.ensures) ∙ c.is.ensures.0 c.if-not-is.false in
     let kept = engine_keeps i.player c.move_engine.new.player i.engine m.0 turn (subst (λ v. IsWinner v.game.state v.engine) (sym c.self.view_is) w) m.1 in
     (subst (λ v. IsWinner c.move_engine.new.player.state v.engine) c.self.view_is kept, λ n. absurd (cc n))
 
@@ -73,8 +73,8 @@ pub returns-in-None-clause-cause : goal.returns-in-None-clause-cause
 returns-in-None-clause-cause g c = let k = c.end_game.ensures.cause in
     record { reads_later = omega arith; writes_later = k.later; read = λ e. absurd (k.not_read e); write = k.write }
 
-pub returns-then-not-is_same-clause-cause : goal.returns-then-not-is_same-clause-cause
-returns-then-not-is_same-clause-cause g c = c.opponent_turn.ensures.cause
+pub returns-then-not-is-clause-cause : goal.returns-then-not-is-clause-cause
+returns-then-not-is-clause-cause g c = c.opponent_turn.ensures.cause
 
 pub returns-in-Err-clause-cause : goal.returns-in-Err-clause-cause
 returns-in-Err-clause-cause g c = let k = c.in-Err.ensures.cause in
@@ -84,5 +84,5 @@ pub returns-clause-cause : goal.returns-clause-cause
 returns-clause-cause g c =
     record { reads_later = omega arith; writes_later = c.move_engine.ensures.cause.later; read = λ e. absurd (cc e); write = λ e. absurd (cc e) }
 
-pub returns-then-not-is_same-clause-written : goal.returns-then-not-is_same-clause-written
-returns-then-not-is_same-clause-written g c = c.opponent_turn.ensures.written
+pub returns-then-not-is-clause-written : goal.returns-then-not-is-clause-written
+returns-then-not-is-clause-written g c = c.opponent_turn.ensures.written
