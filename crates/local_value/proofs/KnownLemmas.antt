@@ -3,7 +3,11 @@ use Rattle.std.proofs.Common.{◌≡◌, ℤ, ℕ, ◌-◌, ◌<◌, ◌≤◌, 
 use Rattle.std.specs.Prelude.{slice_range, Contains, All}
 use Rattle.std.proofs.lemmas.List.{take_all, take-append-le, drop-append-le, drop_at, map_push, get_or-map, length-map}
 use Rattle.std.proofs.lemmas.List.Elements.{All-head, All-tail, Contains-push_cases}
+use Rattle.short_games.specs.Tree.{Tree}
 use Rattle.local_value.specs.declared.form_table.KnownForm.{KnownForm}
+use Rattle.local_value.specs.declared.memo.Memo.{Memo}
+use Rattle.local_value.specs.Remembered.{IsRememberedRight}
+use Rattle.local_value.specs.inner.Memo.{IsMemoRight, remembered}
 use Rattle.local_value.specs.inner.Tables.{known_form, known_sum, Learns}
 use Rattle.local_value.specs.declared.sum_table.KnownSum.{KnownSum}
 
@@ -63,3 +67,11 @@ sum_found sums before place game stones s is inside at g n = subst (λ l. Contai
   omega (arith, length-map sums known_sum, inside),
   get_or-map known_sum sums place s ((game, stones), s.sum) inside ∙ ap known_sum (sym at) ∙ ap₂ (λ x y. ((x, y), s.sum)) g n,
 )
+
+-- what is remembered is right, as callers see it
+pub remembered-right : {Ts : List Tree} {limit : ℕ} {memo : Memo} → IsMemoRight Ts limit memo → IsRememberedRight Ts limit (remembered memo)
+remembered-right right = record { sums = right.sums; forms = right.forms.known; comparisons = right.forms.comparisons }
+
+-- what callers see is right, and so is all that is remembered
+pub memo-right : {Ts : List Tree} {limit : ℕ} {memo : Memo} → IsRememberedRight Ts limit (remembered memo) → IsMemoRight Ts limit memo
+memo-right right = record { sums = right.sums; forms = record { known = right.forms; comparisons = right.comparisons } }

@@ -8,7 +8,8 @@ use Rattle.std.proofs.lemmas.Option.{same_Some}
 use Rattle.std.proofs.lemmas.List.{append-nil, take_more}
 use Rattle.go_grid.specs.declared.grid.Colour.{Colour}
 use Rattle.go_grid.specs.declared.grid.Colour.TheVariants.{Black, White}
-use Rattle.local_value.specs.inner.Options.{side, option_for, options_of, IsAdded}
+use Rattle.local_value.specs.Remembered.{side, option_for, options_of}
+use Rattle.local_value.specs.inner.Options.{IsAdded}
 
 -- the number of the player's option gives its id
 its : (c : Colour) (id o : ℕ) → o ≡ 2 * id + side c → option_for c o ≡ Some id

@@ -13,9 +13,10 @@ use Rattle.short_games.specs.Number.{number_tree, IsNumber}
 use Rattle.short_games.specs.Parts.{HasMoreParts, IsNumberOf, IsOption}
 use Rattle.game_canon.specs.Outcomes.{IsCanonicalId, AreWithin, AreOptionsWithin, IsCause}
 use Rattle.local_value.specs.declared.memo.Forms.{Forms}
-use Rattle.local_value.specs.inner.Options.{options_of, IsAdded}
+use Rattle.local_value.specs.Remembered.{options_of, stones_units, IsStonesSum, AreStonesSumsRight, IsFormOfOptions, IsFormOf, AreKnownRight}
+use Rattle.local_value.specs.inner.Options.{IsAdded}
 use Rattle.local_value.specs.inner.Tables.{Learns}
-use Rattle.local_value.specs.inner.Memo.{stones_units, IsStonesSum, AreStonesSumsRight, IsFormOfOptions, IsFormOf, AreKnownRight, AreFormsRight}
+use Rattle.local_value.specs.inner.Memo.{AreFormsRight}
 use Rattle.go_grid.specs.declared.grid.Colour.{Colour}
 use Rattle.go_grid.specs.declared.grid.Colour.TheVariants.{Black, White}
 use Rattle.local_graph.specs.declared.graph.Edge.{Edge}

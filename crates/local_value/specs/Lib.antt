@@ -8,4 +8,5 @@ pub mod BudgetLaws
 pub mod BudgetValues
 pub mod Values
 pub mod Refusals
+pub mod Remembered
 pub mod inner

@@ -1,4 +1,4 @@
-//! The values of all positions of a graph in which one colour has a budget of captures that return.
+//! The layers of values of a graph in which one colour has a budget of captures that return.
 
 ghost use Rattle.std.specs.Prelude.{ℕ, ◌≡◌, ◌↔◌, ◌+◌, ◌-◌, ◌<◌, ◌≤◌, ◌^◌, ◌⊎◌, List, true, false, length, take, slice_index_or, [], ◌∷◌, ◌++◌, IfOk, IfErr, IfSome, IsTrue, OnOk, Contains};
 ghost use Rattle.go_grid.specs.Region.{Region};
@@ -7,14 +7,15 @@ ghost use Rattle.short_games.specs.Tree.{Tree};
 ghost use Rattle.game_store.specs.Meaning.{Extends};
 ghost use Rattle.game_canon.specs.Outcomes.{IsCause};
 ghost use Rattle.local_value.specs.declared.budgets.BudgetError.TheVariants.{Form};
-ghost use Rattle.local_value.specs.BudgetValues.{IsReturnGraphOf, AreWithinLimits, IsPastLimits, Valued};
+ghost use Rattle.local_value.specs.BudgetValues.{IsReturnGraphOf, AreWithinLimits, IsPastLimits};
 ghost use Rattle.local_value.specs.inner.Layers.{IsFollowed, AreFollowed, IsLayer, AreLayers, AreValued, IsBudgetLeft, IsLayerBack, IsRoom, IsUnchanged, IsKept, IsMade};
-ghost use Rattle.local_value.specs.inner.Memo.{IsMemoRight};
+ghost use Rattle.local_value.specs.Remembered.{IsRightAfter};
+ghost use Rattle.local_value.specs.inner.Memo.{IsMemoRight, remembered};
 ghost use Rattle.local_value.specs.inner.Valuing.{IsNoted, AreWithinAfter, HasEdges, most_units};
 
 use crate::memo::Memo;
 use crate::short_ids::{ShortId, shortened};
-use crate::steady_values::{Layer, SteadyValues, append};
+use crate::steady_values::{Layer, append};
 use crate::values::value_of;
 use game_canon::FormError;
 use game_store::{GameId, Store};
@@ -323,7 +324,7 @@ fn is_last_repeated(layers: &[Layer]) -> bool
 }
 
 /// Works out the layers up to the first that the next one repeats.
-fn add_layers(
+pub(crate) fn add_layers(
     alloc: Global,
     graph: &ReturnGraph,
     owner: Colour,
@@ -339,6 +340,7 @@ fn add_layers(
     requires memo { IsMemoRight store.old parts_limit memo.old }
     ensures valued { (r : Region) → IsReturnGraphOf r graph.now
         → AreValued r graph.now owner most parts_limit store.new layers.new.items result }
+    ensures memo { IsRightAfter store.new parts_limit result (remembered memo.new) }
     ensures kept { Extends store.old store.new }
 {
     add_layer(alloc, graph, owner, store, memo, layers, parts_limit)?;
@@ -354,39 +356,4 @@ fn add_layers(
         }
     }
     Err(BudgetError::Captures)
-}
-
-/// The values of all positions of a graph with each budget of returning captures for a colour up to the least at which one more
-/// changes nothing. That is at most `most`. `Form` where a value that is needed to tell has more than `parts_limit` parts, or a
-/// number past the bounds of a `Dyadic`; else `Captures` where there is no such budget. Every id of the store keeps its form,
-/// whatever the answer.
-pub fn value_steady(
-    alloc: Global,
-    graph: &ReturnGraph,
-    owner: Colour,
-    store: &mut Store,
-    most: u8,
-    parts_limit: u32,
-) -> Result<SteadyValues, BudgetError>
-    requires graph { (r : Region) × IsReturnGraphOf r graph.now }
-    requires few { length graph.now.positions ≤ MOST_POSITIONS }
-    ensures valued { (r : Region) → IsReturnGraphOf r graph.now
-        → Valued r graph.now owner most parts_limit store.new result }
-    ensures kept { Extends store.old store.new }
-{
-    let mut memo = Memo::new(alloc);
-    let mut layers = Vec::new(alloc);
-    let valued = add_layers(
-        alloc,
-        graph,
-        owner,
-        store,
-        &mut memo,
-        &mut layers,
-        most,
-        parts_limit,
-    );
-    drop(memo);
-    valued?;
-    Ok(SteadyValues::new(layers))
 }

@@ -1,6 +1,7 @@
 //! The values of the positions of a local graph.
 #![tactic(auto)]
 
+mod budget_values;
 mod budgets;
 mod chains;
 mod form_table;
@@ -10,10 +11,13 @@ mod options;
 mod short_ids;
 mod steady_values;
 mod sum_table;
+mod value_memo;
 mod values;
 
-pub use budgets::{BudgetError, value_steady};
+pub use budget_values::{value_steady, value_steady_with};
+pub use budgets::BudgetError;
 pub use laws::{budget_tree_laws, position_tree_laws, steady_values_laws};
 pub use short_ids::ShortId;
 pub use steady_values::{Layer, SteadyValues};
+pub use value_memo::ValueMemo;
 pub use values::{Values, value_all, value_compact};

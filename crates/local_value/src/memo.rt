@@ -9,8 +9,8 @@ ghost use Rattle.game_store.specs.Meaning.{listed, AreIds, Extends};
 ghost use Rattle.game_canon.specs.Changes.{IsSumRefusal};
 ghost use Rattle.game_canon.specs.Outcomes.{IsCause};
 ghost use Rattle.game_canon.specs.FormComparisons.{AreFormComparisonsRight};
-ghost use Rattle.local_value.specs.inner.Options.{options_of};
-ghost use Rattle.local_value.specs.inner.Memo.{stones_units, IsStonesSum, AreStonesSumsRight, IsFormOf, AreFormsRight, IsMemoRight};
+ghost use Rattle.local_value.specs.Remembered.{options_of, stones_units, IsStonesSum, AreStonesSumsRight, IsFormOf};
+ghost use Rattle.local_value.specs.inner.Memo.{AreFormsRight, IsMemoRight};
 
 use crate::form_table::FormTable;
 use crate::options::{hash_of, ids_for, in_order};

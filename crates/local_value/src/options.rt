@@ -1,7 +1,8 @@
 //! The options of a position as one list of numbers.
 
 ghost use Rattle.std.specs.Prelude.{◌≡◌, ◌+◌, ◌*◌, ◌↔◌, ℕ, Contains, IfOk, OnOk};
-ghost use Rattle.local_value.specs.inner.Options.{side, option_for, options_of, IsAdded};
+ghost use Rattle.local_value.specs.Remembered.{side, option_for, options_of};
+ghost use Rattle.local_value.specs.inner.Options.{IsAdded};
 
 use crate::chains::MULTIPLIER;
 use game_store::GameId;

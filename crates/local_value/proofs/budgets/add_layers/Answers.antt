@@ -3,7 +3,10 @@ use Rattle.std.proofs.lemmas.Bool.{true≢false}
 use Rattle.std.proofs.lemmas.Result.{err_from_is_err_and}
 use Rattle.game_canon.proofs.ChangedIdLaws.{extends-on}
 use Rattle.local_value.specs.BudgetValues.{AreWithinLimits, IsPastLimits}
+use Rattle.local_value.specs.Remembered.{IsRightAfter}
 use Rattle.local_value.specs.inner.Layers.{AreLayers, AreValued}
+use Rattle.local_value.specs.inner.Memo.{remembered}
+use Rattle.local_value.proofs.KnownLemmas.{remembered-right}
 use Rattle.local_value.proofs.SteadyLaws.{acyclic-steady, last-steady, layers-first, LastIsRepeated, limits-more, needs-more, no-layers, refused-form, refused-later, steady-layers, within-none}
 use Rattle.local_value.proofs.budgets.add_layers.Goals as goal
 
@@ -38,6 +41,25 @@ returns-then-not-has_cycle-clause-valued c = λ r of.
       steady-layers of (c.in_ok-add_layer.ensures.layers r of none) many (λ j lt. absurd (omega (arith, lt)))
           (acyclic-steady c.args.owner of (c.has_cycle.ensures.0 c.if-not-has_cycle.true)) (within-none of limits),
     )
+
+pub returns-in_err-add_layer-clause-memo : goal.returns-in_err-add_layer-clause-memo
+returns-in_err-add_layer-clause-memo c =
+    refused-form (λ z. IsRightAfter c.add_layer.new.store c.args.parts_limit z (remembered c.add_layer.new.memo)) _
+    (err_from_is_err_and c.from_residual.result c.from_residual.ensures.1) tt
+
+pub returns-then-not-has_cycle-clause-memo : goal.returns-then-not-has_cycle-clause-memo
+returns-then-not-has_cycle-clause-memo c = remembered-right c.in_ok-add_layer.ensures.memo
+
+pub returns-in_err-add_layer-2-clause-memo : goal.returns-in_err-add_layer-2-clause-memo
+returns-in_err-add_layer-2-clause-memo c =
+    refused-form (λ z. IsRightAfter c.add_layer-in-layers.new.store c.args.parts_limit z (remembered c.add_layer-in-layers.new.memo)) c.in_err-add_layer-2.field-0.0
+    (err_from_is_err_and c.from_residual-in_err-add_layer-2.result c.from_residual-in_err-add_layer-2.ensures.1) tt
+
+pub returns-then-is_last_repeated-clause-memo : goal.returns-then-is_last_repeated-clause-memo
+returns-then-is_last_repeated-clause-memo c = remembered-right c.in_ok-add_layer-2.ensures.memo
+
+pub returns-clause-memo : goal.returns-clause-memo
+returns-clause-memo c = remembered-right c.layers.invariant.memo
 
 pub layers-init : goal.layers-init
 layers-init c = record {

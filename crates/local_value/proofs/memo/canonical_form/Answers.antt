@@ -2,7 +2,7 @@ use Rattle.std.proofs.Common.{◌≡◌, ap₂, sym, ◌∙◌, subst}
 use Rattle.go_grid.specs.declared.grid.Colour.TheVariants.{Black, White}
 use Rattle.game_store.specs.Meaning.{listed, AreIds}
 use Rattle.game_canon.specs.Outcomes.{IsCanonicalId, AreOptionsWithin}
-use Rattle.local_value.specs.inner.Options.{options_of}
+use Rattle.local_value.specs.Remembered.{options_of}
 use Rattle.local_value.proofs.OptionsLaws.{form-made}
 use Rattle.local_value.proofs.memo.canonical_form.Goals as goal
 

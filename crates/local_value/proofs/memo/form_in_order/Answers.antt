@@ -2,8 +2,7 @@ use Rattle.std.proofs.Common.{◌↔◌, ℕ, List, subst, sym}
 use Rattle.std.specs.Prelude.{Contains}
 use Rattle.go_grid.specs.declared.grid.Colour.TheVariants.{Black, White}
 use Rattle.game_store.specs.Meaning.{listed}
-use Rattle.local_value.specs.inner.Options.{options_of}
-use Rattle.local_value.specs.inner.Memo.{IsFormOf}
+use Rattle.local_value.specs.Remembered.{options_of, IsFormOf}
 use Rattle.local_value.proofs.OptionsLaws.{form-learned, form-same, ids-same, listed-same, cause-as, ids-grown}
 use Rattle.local_value.proofs.memo.form_in_order.Goals as goal
 

@@ -1,6 +1,6 @@
 use Rattle.std.proofs.Common.{ℤ, ◌≡◌, ap, ◌∙◌, to_z, of_z, w32}
 use Rattle.std.proofs.lemmas.Int.{to_z-of_z}
-use Rattle.local_value.specs.inner.Memo.{stones_units, IsStonesSum}
+use Rattle.local_value.specs.Remembered.{stones_units, IsStonesSum}
 use Rattle.local_value.proofs.OptionsLaws.{sum-made, sums-grown, sum-learned}
 use Rattle.local_value.proofs.memo.new_sum.Goals as goal
 

@@ -1,5 +1,5 @@
 use Rattle.std.proofs.Common.{◌≡◌, take}
-use Rattle.local_value.specs.inner.Options.{options_of}
+use Rattle.local_value.specs.Remembered.{options_of}
 use Rattle.local_value.proofs.options.ids_for.Given as goal
 
 abbrev pub invariant-loop-option : goal.invariant-loop-option

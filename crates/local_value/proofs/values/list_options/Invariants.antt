@@ -1,6 +1,5 @@
 use Rattle.go_grid.specs.declared.grid.Colour.TheVariants.{Black, White}
-use Rattle.local_value.specs.inner.Memo.{AreStonesSumsRight}
-use Rattle.local_value.specs.inner.Options.{options_of}
+use Rattle.local_value.specs.Remembered.{AreStonesSumsRight, options_of}
 use Rattle.local_value.proofs.OptionsLaws.{IsListing}
 use Rattle.local_value.proofs.values.list_options.Given as goal
 

@@ -1,5 +1,5 @@
 use Rattle.std.proofs.Common.{ap, ◌∙◌, sym, subst, to_z, of_z, w32}
-use Rattle.local_value.specs.inner.Memo.{stones_units}
+use Rattle.local_value.specs.Remembered.{stones_units}
 use Rattle.local_value.specs.inner.Valuing.{IsAfter}
 use Rattle.local_value.proofs.OptionsLaws.{never-refused, value-untaken, value-summed, held}
 use Rattle.local_value.proofs.values.value_after.Goals as goal

@@ -1,7 +1,7 @@
 use Rattle.std.proofs.Common.{List, ℕ, subst, sym}
 use Rattle.std.proofs.lemmas.Result.{on_ok_weaker}
 use Rattle.go_grid.specs.declared.grid.Colour.TheVariants.{Black, White}
-use Rattle.local_value.specs.inner.Options.{options_of}
+use Rattle.local_value.specs.Remembered.{options_of}
 use Rattle.local_value.specs.inner.Valuing.{AreBothAfter}
 use Rattle.local_value.proofs.OptionsLaws.{sums-grown, forms-grown, left-ids, right-ids, form-refused, form-sizes, form-values}
 use Rattle.local_value.proofs.values.value_of.Goals as goal
