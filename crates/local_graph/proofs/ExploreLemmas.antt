@@ -1,5 +1,5 @@
 -- Exploring the reachable positions.
-use Rattle.std.proofs.Common.{◌≡◌, ◌≢◌, ℕ, ◌+◌, ◌^◌, ◌<◌, ◌≤◌, inl, inr, suc, zero, arith, refl, sym, ap, ◌∙◌, List, [], ◌∷◌, ◌++◌, map, length, get_or, set, subst, length-append, Result, Ok, Err}
+use Rattle.std.proofs.Common.{◌≡◌, ◌≢◌, ℕ, ◌+◌, ◌^◌, ◌<◌, ◌≤◌, inl, inr, suc, zero, arith, refl, sym, ap, ◌∙◌, List, [], ◌∷◌, ◌++◌, map, length, drop, get_or, set, subst, length-append, Ok, Err}
 use Rattle.std.specs.List.{AllPairs, Contains}
 use Rattle.std.proofs.lemmas.Bool.{cases_eq, cases_lt}
 use Rattle.std.proofs.lemmas.List.{get_or_append_left, get_or-set_same, get_or-set_other, length-set, get_or_default, length-map, get_or-map}
@@ -9,7 +9,7 @@ use Rattle.go_grid.specs.declared.region.Touch.{Touch}
 use Rattle.local_play.specs.declared.local_move.LocalMove.{LocalMove}
 use Rattle.local_play.specs.LocalPlay.{IsLocalMove}
 use Rattle.local_play.specs.Packed.{pack}
-use Rattle.local_play.specs.Moves.{ListsLocalMoves}
+use Rattle.local_play.specs.Moves.{ListsLocalMoves, IsMoveFrom}
 use Rattle.local_play.proofs.PackLemmas.{pack_same}
 use Rattle.local_graph.specs.declared.graph_build.GraphError.{GraphError}
 use Rattle.local_graph.specs.declared.graph_build.GraphError.TheVariants.{Points, Positions, Cycle, Memory}
@@ -18,9 +18,9 @@ use Rattle.local_graph.specs.declared.graph.Edge.{Edge}
 use Rattle.local_graph.specs.LocalGraph.{Plays, IsReachable, AreEdges, HasMoves, IsGraph, MoreThan}
 use Rattle.go_grid.proofs.PlayLemmas.{long_after}
 use Rattle.local_graph.specs.inner.PlaceTable.{IsNumbered}
-use Rattle.local_graph.specs.inner.Exploring.{AreReachable, Exploring, EdgesFrom}
+use Rattle.local_graph.specs.inner.Exploring.{AreReachable, Exploring, EdgesFrom, AreMovesFrom}
 use Rattle.local_graph.specs.inner.Found.{Grows, AddsPositions, EdgesFor, Explored, Placed, AreAwaited}
-use Rattle.local_graph.proofs.FoundLemmas.{edge_more}
+use Rattle.local_graph.proofs.FoundLemmas.{edge_more, Linking, linking_all, extends_grows}
 use Rattle.local_graph.proofs.FiniteLemmas.{few_positions}
 use Rattle.local_graph.proofs.PlayLemmas.{plays_long, plays_more, one_after}
 
@@ -60,12 +60,12 @@ has_moves_more touch cells before more after edges is (moves, lists, (long, each
     (moves, lists, (long, λ k m e lt am ae. edge_more before more after m e is (each k m e lt am ae)))
 
 reachable_more : (touch : List Touch) (opening : List Cell) (before after : List ℕ) (cells : List Cell) (moves : List LocalMove)
-    → AreReachable touch opening before → AddsPositions before moves after → IsReachable touch opening cells → ListsLocalMoves touch cells moves
+    → AreReachable touch opening before → AddsPositions before moves after → IsReachable touch opening cells → AreMovesFrom touch cells moves
     → AreReachable touch opening after
-reachable_more touch opening before after cells moves all x here lists n h = elim (x.new n h) [
+reachable_more touch opening before after cells moves all x here legal n h = elim (x.new n h) [
   | inl old ↦ all n old
   | inr (m, among, is) ↦
-      let move = lists.legal m among in
+      let move = legal m among in
       let step : CycleMove = record { colour = m.colour; place = m.place } in
       (move.after, (here.0 ++ step ∷ [], plays_more touch opening cells move.after here.0 step here.1 move.move), sym is ∙ move.next)
 ]
@@ -81,7 +81,7 @@ explore_step touch opening limit positions after edges all front waiting place c
   first = ap (λ l. get_or l 0 0) x.appended ∙ get_or_append_left positions x.more 0 0 s.some ∙ s.first;
   once = x.once;
   few = few;
-  reachable = reachable_more touch opening positions after cells moves s.reachable x here lists;
+  reachable = reachable_more touch opening positions after cells moves s.reachable x here lists.legal;
   beside = w.long;
   inside = λ i h. elim (w.only i h) [
     | inl old ↦ let lt = s.inside i (Contains-append_left front (place ∷ []) i old) in omega (arith, lt, longer, sum)
@@ -168,14 +168,14 @@ too_many touch opening limit ns all once many =
 
 pub explore_err : (touch : List Touch) (opening : List Cell) (limit : ℕ) (positions after : List ℕ)
     (cells : List Cell) (moves : List LocalMove) (es : List Edge) (e : GraphError) → AreReachable touch opening positions
-    → IsReachable touch opening cells → ListsLocalMoves touch cells moves → EdgesFor positions moves limit after es (Err e)
+    → IsReachable touch opening cells → AreMovesFrom touch cells moves → EdgesFor positions moves limit after es (Err e)
     → Explored touch opening limit after (Err e)
-explore_err touch opening limit positions after cells moves es Positions s here lists x =
+explore_err touch opening limit positions after cells moves es Positions s here legal x =
     too_many touch opening limit after
-    (reachable_more touch opening positions after cells moves s x.0 here lists) x.0.once x.1
-explore_err touch opening limit positions after cells moves es (Points n) s here lists x = absurd x
-explore_err touch opening limit positions after cells moves es (Cycle ms back) s here lists x = absurd x
-explore_err touch opening limit positions after cells moves es (Memory e) s here lists x = tt
+    (reachable_more touch opening positions after cells moves s x.0 here legal) x.0.once x.1
+explore_err touch opening limit positions after cells moves es (Points n) s here legal x = absurd x
+explore_err touch opening limit positions after cells moves es (Cycle ms back) s here legal x = absurd x
+explore_err touch opening limit positions after cells moves es (Memory e) s here legal x = tt
 
 pub start_err : (touch : List Touch) (opening : List Cell) (limit start : ℕ) (after : List ℕ) (e : GraphError) → start ≡ pack opening
     → Placed [] start limit after (Err e) → Explored touch opening limit after (Err e)
@@ -258,11 +258,10 @@ pub opening_numbered : (cells : List Cell) (numbers places n : ℕ) → length c
 opening_numbered cells numbers places n long few many is =
     (cells, omega (arith, long, few), omega (arith, many, ap (λ k. 3 ^ k) long), is)
 
-pub moves_numbered : (touch : List Touch) (cells : List Cell) (moves : List LocalMove) (numbers places : ℕ) → ListsLocalMoves touch cells moves
-    → length cells ≡ places → places ≤ 32 → numbers ≡ 3 ^ places → (m : LocalMove) → Contains moves m → IsNumbered numbers m.next
-moves_numbered touch cells moves numbers places lists long few many m among =
-    let move = lists.legal m among in
-    opening_numbered move.after numbers places m.next (long_after move.move ∙ long) few many move.next
+pub move_numbered : (touch : List Touch) (cells : List Cell) (m : LocalMove) (numbers : ℕ) → IsMoveFrom touch cells m
+    → length cells ≤ 32 → numbers ≡ 3 ^ length cells → IsNumbered numbers m.next
+move_numbered touch cells m numbers move few many =
+    opening_numbered move.after numbers (length cells) m.next (long_after move.move) few many move.next
 
 -- the position whose moves come next
 pub record IsNext (touch : List Touch) (opening : List Cell) (positions : List ℕ) (i n : ℕ) : Type 0 where
@@ -295,15 +294,23 @@ pub last_waiting : (touch : List Touch) (opening : List Cell) (limit : ℕ) (pos
     (i : ℕ) → Exploring touch opening limit positions all waiting → waiting ≡ front ++ i ∷ [] → i < length positions
 last_waiting touch opening limit positions all waiting front i s ends = s.inside i (subst (λ l. Contains l i) (sym ends) (Contains-push front i))
 
--- the edges of listed moves
-pub edges_from : (touch : List Touch) (cells : List Cell) (before : List ℕ) (limit : ℕ) (after : List ℕ) (moves : List LocalMove) (es : List Edge)
-    (r : Result (Unit {0}) GraphError) → ListsLocalMoves touch cells moves → EdgesFor before moves limit after es r
-    → EdgesFrom touch cells before limit after es r
-edges_from touch cells before limit after moves es (Ok done) lists x = (moves, lists, x)
-edges_from touch cells before limit after moves es (Err Positions) lists x = (moves, lists, x)
-edges_from touch cells before limit after moves es (Err (Points n)) lists x = absurd x
-edges_from touch cells before limit after moves es (Err (Cycle ms back)) lists x = absurd x
-edges_from touch cells before limit after moves es (Err (Memory e)) lists x = tt
+-- the edges of all moves
+pub edges_from : (touch : List Touch) (cells : List Cell) (before : List ℕ) (limit : ℕ) (after : List ℕ) (given : List LocalMove)
+    (first whole edges : List Edge) (done : Unit {0}) → ListsLocalMoves touch cells given → whole ≡ first ++ edges
+    → Linking before given limit after edges → EdgesFrom touch cells before limit after (drop (length first) whole) (Ok done)
+edges_from touch cells before limit after given first whole edges done lists is s =
+    (given, lists, linking_all before given limit after first whole edges is s)
+
+-- at a move there were too many positions
+pub edges_err : (touch : List Touch) (cells : List Cell) (before between after : List ℕ) (given : List LocalMove) (limit : ℕ)
+    (edges es : List Edge) (m : LocalMove) (e : GraphError) → AreMovesFrom touch cells (given ++ m ∷ [])
+    → Linking before given limit between edges → Placed between m.next limit after (Err e)
+    → EdgesFrom touch cells before limit after es (Err e)
+edges_err touch cells before between after given limit edges es m Positions legal s p =
+    (given ++ m ∷ [], legal, (extends_grows before between after given m s.extends p.0, p.1))
+edges_err touch cells before between after given limit edges es m (Points n) legal s p = absurd p
+edges_err touch cells before between after given limit edges es m (Cycle ms back) legal s p = absurd p
+edges_err touch cells before between after given limit edges es m (Memory e) legal s p = tt
 
 pub not_fewer : (touch : List Touch) (cells : List Cell) (before : List ℕ) (limit : ℕ) (after : List ℕ) (es : List Edge) (done : Unit {0})
     → EdgesFrom touch cells before limit after es (Ok done) → length before ≤ length after
@@ -312,8 +319,8 @@ not_fewer touch cells before limit after es done (moves, lists, x) = omega (arit
 pub explored_fails : (touch : List Touch) (opening : List Cell) (limit : ℕ) (positions after : List ℕ)
     (i n : ℕ) (es : List Edge) (e : GraphError) → AreReachable touch opening positions
     → (w : IsNext touch opening positions i n) → EdgesFrom touch w.cells positions limit after es (Err e) → Explored touch opening limit after (Err e)
-explored_fails touch opening limit positions after i n es Positions s w (moves, lists, x) =
-    explore_err touch opening limit positions after w.cells moves es Positions s w.reach lists x
+explored_fails touch opening limit positions after i n es Positions s w (moves, legal, x) =
+    explore_err touch opening limit positions after w.cells moves es Positions s w.reach legal x
 explored_fails touch opening limit positions after i n es (Points p) s w x = absurd x
 explored_fails touch opening limit positions after i n es (Cycle ms back) s w x = absurd x
 explored_fails touch opening limit positions after i n es (Memory e) s w x = tt

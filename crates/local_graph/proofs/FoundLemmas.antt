@@ -1,9 +1,9 @@
 -- Positions in the order in which they were found.
-use Rattle.std.proofs.Common.{◌≡◌, ◌≢◌, ℕ, ◌+◌, ◌<◌, ◌≤◌, ◌⊎◌, inl, inr, arith, refl, sym, ap, ◌∙◌, List, [], ◌∷◌, ◌++◌, Bool, true, false, length, drop, get_or, if◌then◌else◌, nat_eq, subst, append_assoc, append-nil, length-append, Err}
+use Rattle.std.proofs.Common.{◌≡◌, ◌≢◌, ℕ, ◌+◌, ◌<◌, ◌≤◌, ◌⊎◌, inl, inr, arith, refl, sym, ap, ◌∙◌, List, [], ◌∷◌, ◌++◌, Bool, true, false, length, drop, get_or, if◌then◌else◌, nat_eq, subst, append_assoc, append-nil, length-append}
 use Rattle.std.specs.List.{AllPairs, Contains, list_any}
 use Rattle.std.proofs.lemmas.Bool.{cases_eq, cases_lt, both_ways, eq-eqb}
 use Rattle.std.proofs.Math.Seq.{drop-append_seam}
-use Rattle.std.proofs.lemmas.List.{get_or_default, get_or_append_left, get_or_push, get_or_past, length_push, length-map, map-append}
+use Rattle.std.proofs.lemmas.List.{get_or_append_left, get_or_push, get_or_past, length_push, length-map, map-append}
 use Rattle.std.proofs.lemmas.List.Folds.{list_any_at}
 use Rattle.std.proofs.lemmas.List.Elements.{All-push, Contains-push, Contains-push_cases, Contains-append_left, Contains-get_or}
 use Rattle.std.proofs.lemmas.List.Quantifiers.{all_pairs_push}
@@ -12,9 +12,7 @@ use Rattle.local_graph.specs.declared.graph.Edge.{Edge}
 use Rattle.local_graph.specs.declared.edge_lists.Span.{Span}
 use Rattle.local_graph.specs.inner.Graph.{part, lists_of, no_edges, AreWithin}
 use Rattle.local_graph.specs.LocalGraph.{IsEdgeOf, AreEdges}
-use Rattle.local_graph.specs.declared.graph_build.GraphError.{GraphError}
-use Rattle.local_graph.specs.declared.graph_build.GraphError.TheVariants.{Points, Positions, Cycle, Memory}
-use Rattle.local_graph.specs.inner.Found.{Grows, AddsPositions, Placed, EdgesFor, AreAwaited, edge_of}
+use Rattle.local_graph.specs.inner.Found.{Grows, AddsPositions, AreAwaited, edge_of}
 
 absent : (n : ℕ) (ns : List ℕ) → list_any (nat_eq n) ns ≡ false → ¬ Contains ns n
 absent n ns none (k, lt, at) = both_ways _ none (list_any_at (nat_eq n) ns k n lt (eq-eqb n (get_or ns k n) (sym at)))
@@ -49,20 +47,17 @@ once_grows before after n once (inr (e, new)) =
     (all_pairs_push (λ a b. a ≢ b) before n once
     (λ k d lt same. new (subst (Contains before) same (Contains-get_or before k d lt))))
 
--- the edges so far, of the moves below `i`
-pub record Linking (before : List ℕ) (moves : List LocalMove) (limit : ℕ) (after : List ℕ) (edges : List Edge) (i : ℕ) : Type 0 where
-  pub extends : AddsPositions before moves after
+-- the edges so far, of the moves that were given
+pub record Linking (before : List ℕ) (given : List LocalMove) (limit : ℕ) (after : List ℕ) (edges : List Edge) : Type 0 where
+  pub extends : AddsPositions before given after
   pub few : length after ≤ limit
-  pub long : length edges ≡ i
-  pub each : (k : ℕ) (m : LocalMove) (e : Edge) → k < i → get_or moves k m ≡ m → get_or edges k e ≡ e → IsEdgeOf after m e
+  pub edges_are : AreEdges after given edges
 
-pub linking_start : (before : List ℕ) (moves : List LocalMove) (limit : ℕ) (edges : List Edge) → AllPairs (λ a b. a ≢ b) before
-    → length before ≤ limit → edges ≡ [] → Linking before moves limit before edges 0
-linking_start before moves limit edges once few none = record {
+pub linking_start : (before : List ℕ) (limit : ℕ) → AllPairs (λ a b. a ≢ b) before → length before ≤ limit → Linking before [] limit before []
+linking_start before limit once few = record {
   extends = record { more = []; appended = sym (append-nil before); new = λ n h. inl h; once = once };
   few = few;
-  long = ap length none;
-  each = λ k m e lt. absurd (omega arith);
+  edges_are = (refl, λ k m e lt. absurd (omega arith));
 }
 
 -- positions afterwards keep their places
@@ -79,9 +74,9 @@ grown : (before after : List ℕ) (n : ℕ) → Grows before n after → (more :
 grown before after n (inl same) = ([], same ∙ sym (append-nil before))
 grown before after n (inr (e, new)) = (n ∷ [], e)
 
-pub extends_grows : (before between after : List ℕ) (moves : List LocalMove) (m : LocalMove) → AddsPositions before moves between
-    → Contains moves m → Grows between m.next after → AddsPositions before moves after
-extends_grows before between after moves m s among g =
+pub extends_grows : (before between after : List ℕ) (given : List LocalMove) (m : LocalMove) → AddsPositions before given between
+    → Grows between m.next after → AddsPositions before (given ++ m ∷ []) after
+extends_grows before between after given m s g =
     let w = grown between after m.next g in
     record {
       more = s.more ++ w.0;
@@ -90,53 +85,57 @@ extends_grows before between after moves m s among g =
       once = once_grows between after m.next s.once g;
     }
   where
-    from : (n : ℕ) → Grows between m.next after → Contains after n → Contains before n ⊎ ((x : LocalMove) × Contains moves x × (x.next ≡ n))
-    from n (inl same) h = s.new n (subst (λ l. Contains l n) same h)
+    earlier : (n : ℕ) → Contains before n ⊎ ((x : LocalMove) × Contains given x × (x.next ≡ n))
+        → Contains before n ⊎ ((x : LocalMove) × Contains (given ++ m ∷ []) x × (x.next ≡ n))
+    earlier n (inl old) = inl old
+    earlier n (inr (x, among, is)) = inr (x, Contains-append_left given (m ∷ []) x among, is)
+
+    from : (n : ℕ) → Grows between m.next after → Contains after n
+        → Contains before n ⊎ ((x : LocalMove) × Contains (given ++ m ∷ []) x × (x.next ≡ n))
+    from n (inl same) h = earlier n (s.new n (subst (λ l. Contains l n) same h))
     from n (inr (e, new)) h = elim (Contains-push_cases between m.next n (subst (λ l. Contains l n) e h)) [
-      | inl old ↦ s.new n old
-      | inr is ↦ inr (m, among, is)
+      | inl old ↦ earlier n (s.new n old)
+      | inr is ↦ inr (m, Contains-push given m, is)
     ]
 
-pub linking_push : (before between after : List ℕ) (moves : List LocalMove) (limit i : ℕ) (edges : List Edge) (m : LocalMove) (e : Edge)
-    → Linking before moves limit between edges i → i < length moves → get_or moves i m ≡ m → Grows between m.next after
-    → length after ≤ limit → e.colour ≡ m.colour → e.place ≡ m.place → e.taken ≡ m.taken → e.next < length after
-    → get_or after e.next 0 ≡ m.next → Linking before moves limit after (edges ++ e ∷ []) (i + 1)
-linking_push before between after moves limit i edges m e s lt at g few ec ep et inside next =
+linking_push : (before between after : List ℕ) (given : List LocalMove) (limit : ℕ) (edges : List Edge) (m : LocalMove) (e : Edge)
+    → Linking before given limit between edges → Grows between m.next after → length after ≤ limit → IsEdgeOf after m e
+    → Linking before (given ++ m ∷ []) limit after (edges ++ e ∷ [])
+linking_push before between after given limit edges m e s g few new =
     let w = grown between after m.next g in
-    let among : Contains moves m = (i, lt, at) in
+    let long = s.edges_are.0 in
     record {
-      extends = extends_grows before between after moves m s.extends among g;
+      extends = extends_grows before between after given m s.extends g;
       few = few;
-      long = length_push edges e ∙ ap (λ n. n + 1) s.long;
-      each = λ k x f less at' is. elim (cases_eq k i) [
-        | inl same ↦
-            let x' : x ≡ m = sym at' ∙ get_or_default moves k x m (omega arith) ∙ ap (λ j. get_or moves j m) same ∙ at in
-            let f' : f ≡ e = sym is ∙ get_or_push edges e f k (s.long ∙ sym same) in
-            subst (λ y. IsEdgeOf after y f) (sym x') (subst (IsEdgeOf after m) (sym f') record {
-              colour = ec;
-              place = ep;
-              taken = et;
-              inside = inside;
-              next = next;
-            })
-        | inr ne ↦
-            let short : k < length edges = omega (arith, s.long) in
-            edge_more between w.0 after x f w.1
-            (s.each k x f (omega arith) at' (sym (get_or_append_left edges (e ∷ []) f k short) ∙ is))
-      ];
+      edges_are = (
+        length_push edges e ∙ ap (λ n. n + 1) long ∙ sym (length_push given m),
+        λ k x f less at is. elim (cases_eq k (length edges)) [
+          | inl same ↦
+              let x' : x ≡ m = sym at ∙ get_or_push given m x k (sym long ∙ sym same) in
+              let f' : f ≡ e = sym is ∙ get_or_push edges e f k (sym same) in
+              subst (λ y. IsEdgeOf after y f) (sym x') (subst (IsEdgeOf after m) (sym f') new)
+          | inr ne ↦
+              let short : k < length edges = omega (arith, less, ne, length_push edges e) in
+              edge_more between w.0 after x f w.1
+              (s.edges_are.1 k x f short (sym (get_or_append_left given (m ∷ []) x k (omega (arith, short, long))) ∙ at)
+              (sym (get_or_append_left edges (e ∷ []) f k short) ∙ is))
+        ],
+      );
     }
 
 -- the same with the edge that the code makes
-pub linking_edge : (before between after : List ℕ) (moves : List LocalMove) (limit i : ℕ) (edges more : List Edge) (m : LocalMove) (e : Edge) (place : ℕ)
-    → Linking before moves limit between edges i → i < length moves → get_or moves i m ≡ m → Grows between m.next after → length after ≤ limit
-    → place < length after → get_or after place 0 ≡ m.next → e ≡ edge_of m place → more ≡ edges ++ e ∷ []
-    → Linking before moves limit after more (i + 1)
-linking_edge before between after moves limit i edges more m e place s lt at g few inside next made is =
-    rw (is, made) (linking_push before between after moves limit i edges m (edge_of m place) s lt at g few refl refl refl inside next)
-
-pub linking_end : (before : List ℕ) (moves : List LocalMove) (limit : ℕ) (after : List ℕ) (edges : List Edge)
-    → Linking before moves limit after edges (length moves) → AddsPositions before moves after × AreEdges after moves edges × (length after ≤ limit)
-linking_end before moves limit after edges s = (s.extends, (s.long, λ k m e lt. s.each k m e (omega (arith, s.long))), s.few)
+pub linking_edge : (before between after : List ℕ) (given : List LocalMove) (limit : ℕ) (edges : List Edge) (m : LocalMove) (e : Edge) (place : ℕ)
+    → Linking before given limit between edges → Grows between m.next after → length after ≤ limit
+    → place < length after → get_or after place 0 ≡ m.next → e ≡ edge_of m place
+    → Linking before (given ++ m ∷ []) limit after (edges ++ e ∷ [])
+linking_edge before between after given limit edges m e place s g few inside next made =
+    rw made (linking_push before between after given limit edges m (edge_of m place) s g few record {
+      colour = refl;
+      place = refl;
+      taken = refl;
+      inside = inside;
+      next = next;
+    })
 
 -- the same in the words of the code
 pub placed : (old new : List ℕ) (v n place limit : ℕ) → v ≡ n → new ≡ (if list_any (nat_eq v) old then old else old ++ v ∷ [])
@@ -151,26 +150,15 @@ placed old new v n place limit e key inside at low few =
 pub edges_behind : (first whole edges : List Edge) → whole ≡ first ++ edges → drop (length first) whole ≡ edges
 edges_behind first whole edges is = ap (drop (length first)) is ∙ drop-append_seam first edges
 
-pub linking_all : (before : List ℕ) (moves : List LocalMove) (limit : ℕ) (after : List ℕ) (first whole edges : List Edge) (i : ℕ)
-    → whole ≡ first ++ edges → Linking before moves limit after edges i → i ≡ length moves
-    → AddsPositions before moves after × AreEdges after moves (drop (length first) whole) × (length after ≤ limit)
-linking_all before moves limit after first whole edges i is s e =
-    subst (λ es. AddsPositions before moves after × AreEdges after moves es × (length after ≤ limit)) (sym (edges_behind first whole edges is))
-    (linking_end before moves limit after edges (subst (Linking before moves limit after edges) e s))
+pub linking_all : (before : List ℕ) (given : List LocalMove) (limit : ℕ) (after : List ℕ) (first whole edges : List Edge)
+    → whole ≡ first ++ edges → Linking before given limit after edges
+    → AddsPositions before given after × AreEdges after given (drop (length first) whole) × (length after ≤ limit)
+linking_all before given limit after first whole edges is s =
+    (s.extends, subst (AreEdges after given) (sym (edges_behind first whole edges is)) s.edges_are, s.few)
 
 pub one_behind : (first edges before after : List Edge) (e : Edge) → before ≡ first ++ edges → after ≡ before ++ e ∷ []
     → after ≡ first ++ (edges ++ e ∷ [])
 one_behind first edges before after e is more = more ∙ ap (λ es. es ++ e ∷ []) is ∙ append_assoc first edges (e ∷ [])
-
--- too many positions at one move are too many at the list
-pub linking_err : (before between after : List ℕ) (moves : List LocalMove) (limit i : ℕ) (edges : List Edge) (m : LocalMove) (e : GraphError)
-    → Linking before moves limit between edges i → i < length moves → get_or moves i m ≡ m
-    → Placed between m.next limit after (Err e) → EdgesFor before moves limit after edges (Err e)
-linking_err before between after moves limit i edges m Positions s lt at p =
-    (extends_grows before between after moves m s.extends (i, lt, at) p.0, p.1)
-linking_err before between after moves limit i edges m (Points n) s lt at p = absurd p
-linking_err before between after moves limit i edges m (Cycle ms back) s lt at p = absurd p
-linking_err before between after moves limit i edges m (Memory e) s lt at p = tt
 
 -- one place more waits
 awaited_push : (all after : List (List Edge)) (waiting still : List ℕ) (after' : List (List Edge)) (still' : List ℕ) (place : ℕ)

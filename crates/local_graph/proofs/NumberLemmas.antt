@@ -1,6 +1,6 @@
 -- The number in base 3 of the position after a move that takes nothing.
 use Rattle.std.proofs.Common.{◌≡◌, ℕ, ◌+◌, ◌*◌, ◌^◌, ◌<◌, ◌≤◌, ◌⊎◌, inl, inr, suc, zero, arith, refl, sym, ap, ◌∙◌, List, [], ◌∷◌, length, set, cond}
-use Rattle.std.specs.List.{Contains, count_by}
+use Rattle.std.specs.List.{count_by}
 use Rattle.std.proofs.Math.Nat.{pow-succ', pow-le-pow_right}
 use Rattle.std.proofs.lemmas.List.Sums.{sum_by-set, sum_by-cons}
 use Rattle.go_grid.specs.declared.grid.Cell.{Cell}
@@ -14,7 +14,7 @@ use Rattle.go_grid.proofs.BoardLemmas.{empty_not_stone}
 use Rattle.go_grid.proofs.PlayLemmas.{long_after}
 use Rattle.local_play.specs.declared.local_move.LocalMove.{LocalMove}
 use Rattle.local_play.specs.Packed.{code, pack}
-use Rattle.local_play.specs.Moves.{ListsLocalMoves, IsMoveFrom}
+use Rattle.local_play.specs.Moves.{IsMoveFrom}
 use Rattle.local_graph.specs.inner.PlaceTable.{threes, AddsDigit}
 use Rattle.local_graph.proofs.FiniteLemmas.{ternary, ternary_small}
 use Rattle.local_graph.proofs.ThreesLemmas.{threes_is}
@@ -85,9 +85,9 @@ one_more cells p c lt free =
     stone_counts colour.Black = refl
     stone_counts colour.White = refl
 
-follows : (touch : List Touch) (cells : List Cell) (from : ℕ) (m : LocalMove) → length cells ≤ 32 → from ≡ pack cells
+pub move_follows : (touch : List Touch) (cells : List Cell) (from : ℕ) (m : LocalMove) → length cells ≤ 32 → from ≡ pack cells
     → IsMoveFrom touch cells m → AddsDigit (threes from) m
-follows touch cells from m few is f = record {
+move_follows touch cells from m few is f = record {
   inside = omega (arith, f.move.place, few);
   plain = λ none.
       let placed = f.move in
@@ -100,11 +100,6 @@ follows touch cells from m few is f = record {
 }
 
 -- the same in the words of the code
-pub moves_follow : (touch : List Touch) (cells : List Cell) (moves : List LocalMove) (from places : ℕ) → ListsLocalMoves touch cells moves
-    → length cells ≡ places → places ≤ 32 → from ≡ pack cells → (m : LocalMove) → Contains moves m → AddsDigit (threes from) m
-moves_follow touch cells moves from places lists long few is m among =
-    follows touch cells from m (omega (arith, long, few)) is (lists.legal m among)
-
 pub small_number : (cells : List Cell) (from places : ℕ) → length cells ≡ places → places ≤ 32 → from ≡ pack cells → threes from < 3 ^ 32
 small_number cells from places long few is =
     let few' : length cells ≤ 32 = omega (arith, long, few) in

@@ -13,8 +13,8 @@ ghost use Rattle.local_graph.specs.inner.Built.{IsRooted};
 ghost use Rattle.local_graph.specs.inner.SearchedFor.{IsOrdered};
 ghost use Rattle.local_graph.specs.inner.Exploring.{IsExploring, Begun, Ended, IsPositionOn, EdgesFrom};
 ghost use Rattle.local_graph.specs.inner.Graph.{lists_of, AreWithin};
-ghost use Rattle.local_graph.specs.inner.Found.{Placed, EdgesFor, edge_of, Explored, AreAwaited};
-ghost use Rattle.local_graph.specs.inner.PlaceTable.{threes, IsPlaceTable, IsNumbered, ArePowers, AddsDigit};
+ghost use Rattle.local_graph.specs.inner.Found.{Placed, edge_of, Explored, AreAwaited};
+ghost use Rattle.local_graph.specs.inner.PlaceTable.{threes, IsPlaceTable, IsNumbered, ArePowers};
 
 use crate::compact_edge::CompactEdge;
 use crate::compact_graph::CompactGraph;
@@ -25,7 +25,7 @@ use crate::numbers::{number_after, powers};
 use crate::place_table::{PlaceTable, threes};
 use crate::search::{Searched, search_from_opening};
 use go_grid::Region;
-use local_play::{Links, Local, LocalMove, MOST_PLACES, Steps, list_moves, start};
+use local_play::{Links, Local, LocalMove, LocalMoves, MOST_PLACES, Steps, start};
 use std::alloc::{AllocError, AllocFailed, Global};
 use std::fmt;
 use std::sync::ledger::Ledger;
@@ -116,44 +116,6 @@ fn edge_of(step: &LocalMove, next: usize) -> CompactEdge
     CompactEdge::new(next, step.colour, step.place, step.taken)
 }
 
-/// Puts the edges of a position's moves behind those that are there.
-fn list_edges(
-    alloc: Global,
-    table: &mut PlaceTable,
-    powers: &[u64; MOST_PLACES],
-    from: Local,
-    moves: &[LocalMove],
-    limit: u32,
-    edges: &mut Vec<CompactEdge>,
-) -> Result<(), GraphError>
-    requires table { IsPlaceTable table.old }
-    requires once { AllPairs (λ a b. a ≢ b) table.old.positions.items }
-    requires numbered { (m : LocalMove) → Contains moves.now m
-        → IsNumbered table.old.numbers m.next }
-    requires powers { ArePowers powers.now }
-    requires small { threes from < 3 ^ MOST_PLACES }
-    requires follows { (m : LocalMove) → Contains moves.now m → AddsDigit (threes from) m }
-    requires few { length table.old.positions.items ≤ limit }
-    ensures edges { EdgesFor table.old.positions.items moves.now limit table.new.positions.items
-        (drop (length edges.old.items) edges.new.items) result }
-    ensures behind { OnOk result (edges.new.items
-        ≡ edges.old.items ++ drop (length edges.old.items) edges.new.items) }
-    ensures table { OnOk result (IsPlaceTable table.new) }
-    ensures numbers { OnOk result (table.new.numbers ≡ table.old.numbers) }
-{
-    let number = threes(from.0);
-    for step in moves {
-        let after = number_after(powers, number, step);
-        if let Some(place) = place_of(table, step.next, after) {
-            edges.push(edge_of(step, place))?;
-            continue;
-        }
-        let place = new_place(alloc, table, step.next, limit)?;
-        edges.push(edge_of(step, place))?;
-    }
-    Ok(())
-}
-
 /// Puts the places from the number of spans on behind those that wait, and an empty span for each.
 fn await_new(
     spans: &mut Vec<Span>,
@@ -174,23 +136,22 @@ fn await_new(
     Ok(())
 }
 
-/// Puts the edges of a position behind those that are there. Makes the list that of its moves.
+/// Puts the edges of a position's moves behind those that are there.
 #[inline(always)]
 fn list_position<L: Ledger>(
     alloc: Global,
     table: &mut PlaceTable,
     links: &Links,
-    weights: &[u64; MOST_PLACES],
+    powers: &[u64; MOST_PLACES],
     position: u64,
     limit: u32,
     steps: &mut Steps<L>,
-    moves: &mut Vec<LocalMove>,
     edges: &mut Vec<CompactEdge>,
 ) -> Result<(), GraphError>
     requires table { IsPlaceTable table.old }
     requires once { AllPairs (λ a b. a ≢ b) table.old.positions.items }
     requires position { IsPositionOn links.now table.old.numbers position }
-    requires powers { ArePowers weights.now }
+    requires powers { ArePowers powers.now }
     requires few { length table.old.positions.items ≤ limit }
     ensures edges { (touch : List Touch) (cells : List Cell) → IsTable touch links.now
         → length cells ≡ length touch → position ≡ pack cells
@@ -202,8 +163,18 @@ fn list_position<L: Ledger>(
     ensures numbers { OnOk result (table.new.numbers ≡ table.old.numbers) }
     ensures step { steps.new ≡ steps.old + 1 }
 {
-    list_moves(links, Local(position), steps, moves)?;
-    list_edges(alloc, table, weights, Local(position), moves, limit, edges)
+    let number = threes(position);
+    let mut moves = LocalMoves::of(links, Local(position), steps);
+    'linking: while let Some(step) = moves.next(links) {
+        let after = number_after(powers, number, &step);
+        if let Some(place) = place_of(table, step.next, after) {
+            edges.push(edge_of(&step, place))?;
+            continue;
+        }
+        let place = new_place(alloc, table, step.next, limit)?;
+        edges.push(edge_of(&step, place))?;
+    }
+    Ok(())
 }
 
 /// The edges that were found, the span of them that is each position's, and the places that wait for their edges.
@@ -260,7 +231,6 @@ fn explore_waiting<L: Ledger>(
 {
     let links = Links::of(region);
     let weights = powers();
-    let mut moves = Vec::new(alloc);
     'exploring: while let Some(place) = found.waiting.pop() {
         let position = table.positions[place];
         let first = found.edges.len();
@@ -272,7 +242,6 @@ fn explore_waiting<L: Ledger>(
             position,
             limit,
             steps,
-            &mut moves,
             &mut found.edges,
         )?;
         let end = found.edges.len();

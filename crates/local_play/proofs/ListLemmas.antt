@@ -9,119 +9,16 @@ use Rattle.go_grid.specs.declared.grid.Cell.{Cell}
 use Rattle.go_grid.specs.declared.grid.Colour.{Colour}
 use Rattle.go_grid.specs.declared.grid.Colour.TheVariants as colour
 use Rattle.go_grid.specs.declared.region.Touch.{Touch}
+use Rattle.go_grid.specs.Board.{other}
 use Rattle.local_play.specs.declared.places.Places.{Places}
 use Rattle.local_play.specs.declared.local_move.LocalMove.{LocalMove}
-use Rattle.local_play.specs.declared.local_move.Turn.{Turn}
+use Rattle.local_play.specs.declared.local_moves.LocalMoves.{LocalMoves}
+use Rattle.local_play.specs.GivenMoves.{HaveGiven}
 use Rattle.local_play.specs.LocalPlay.{IsLocalMove}
 use Rattle.local_play.specs.Moves.{ListsLocalMoves, IsMoveFrom, StandsBefore}
 use Rattle.local_play.specs.Places.{Has}
-use Rattle.local_play.specs.inner.Lasting.{IsTurn, ListsBelow, AddsMoves}
-
--- the moves at the places below `n` stand behind the list, and the empty places from `n` on are left
-pub record Adding (touch : List Touch) (cells : List Cell) (t : Turn) (before moves : List LocalMove) (rest : Places) : Type 0 where
-  pub n : ℕ
-  pub more : List LocalMove
-  pub appended : moves ≡ before ++ more
-  pub below : ListsBelow touch cells t.colour n more
-  pub left : (q : ℕ) → Has rest q ↔ (Has t.empty q × (n ≤ q))
-
-pub adding_start : (touch : List Touch) (cells : List Cell) (t : Turn) (moves : List LocalMove) → Adding touch cells t moves moves t.empty
-adding_start touch cells t moves = record {
-  n = 0;
-  more = [];
-  appended = sym (append-nil moves);
-  below = record {
-    each = λ m h. absurd (omega (arith, h.1));
-    all = λ p after lt. absurd (omega arith);
-    rising = λ i j d lt short. absurd (omega arith);
-  };
-  left = λ q. (λ h. (h, omega arith), λ w. w.0);
-}
-
-module _ (touch : List Touch) (cells : List Cell) (t : Turn) (before moves : List LocalMove) (rest one rest' : Places) (p : ℕ)
-    (turn : IsTurn touch cells t) (s : Adding touch cells t before moves rest) (here : Has rest p) (lowest : (q : ℕ) → q < p → ¬ Has rest q)
-    (is_one : (q : ℕ) → Has one q ↔ (q ≡ p)) (is_rest : (q : ℕ) → Has rest' q ↔ (Has rest q × ¬ Has one q)) where
-  from : s.n ≤ p
-  from = ((s.left p).0 here).1
-
-  -- a place below `p` that is not below `n` has no move
-  passed : (q : ℕ) (after : List Cell) → q < p → s.n ≤ q → ¬ IsLocalMove touch cells t.colour q after
-  passed q after lt le m = lowest q lt ((s.left q).1 ((turn.empty q).1 (omega (arith, m.place, turn.long), m.free), le))
-
-  wider : (m : LocalMove) → (m.colour ≡ t.colour) × (m.place < s.n) × IsMoveFrom touch cells m
-      → (m.colour ≡ t.colour) × (m.place < p + 1) × IsMoveFrom touch cells m
-  wider m (c, lt, w) = (c, omega (arith, lt, from), w)
-
-  left_now : (q : ℕ) → Has rest' q ↔ (Has t.empty q × (p + 1 ≤ q))
-  left_now q = (
-    λ h.
-        let w = (is_rest q).0 h in (
-          ((s.left q).0 w.0).0,
-          elim (cases_lt q p) as (λ _. p + 1 ≤ q) [
-            | inl lt ↦ absurd (lowest q lt w.0)
-            | inr le ↦ let ne : q ≢ p = λ e. w.1 ((is_one q).1 e) in omega (arith, ne, le)
-          ],
-        ),
-    λ w. (is_rest q).1 ((s.left q).1 (w.0, omega (arith, w.1, from)), λ h. let e = (is_one q).0 h in absurd (omega (arith, w.1, e))),
-  )
-
-  pub adding_none : ((after : List Cell) → ¬ IsLocalMove touch cells t.colour p after) → Adding touch cells t before moves rest'
-  adding_none none = record {
-    n = p + 1;
-    more = s.more;
-    appended = s.appended;
-    below = record {
-      each = λ m h. wider m (s.below.each m h);
-      all = λ q after lt m. elim (cases_lt q s.n) [
-        | inl old ↦ s.below.all q after old m
-        | inr le ↦ elim (cases_eq q p) [
-          | inl e ↦ absurd (none after (subst (λ x. IsLocalMove touch cells t.colour x after) e m))
-          | inr ne ↦ absurd (passed q after (omega (arith, lt, ne)) le m)
-        ]
-      ];
-      rising = s.below.rising;
-    };
-    left = left_now;
-  }
-
-  pub adding_push : (m : LocalMove) → m.colour ≡ t.colour → m.place ≡ p → IsMoveFrom touch cells m
-      → Adding touch cells t before (moves ++ m ∷ []) rest'
-  adding_push m c at new = record {
-    n = p + 1;
-    more = s.more ++ m ∷ [];
-    appended = ap (λ l. l ++ m ∷ []) s.appended ∙ append_assoc before s.more (m ∷ []);
-    below = record {
-      each = λ x h. elim (Contains-push_cases s.more m x h) [
-        | inl old ↦ wider x (s.below.each x old)
-        | inr e ↦ subst (λ y. (y.colour ≡ t.colour) × (y.place < p + 1) × IsMoveFrom touch cells y) e (c, omega (arith, at), new)
-      ];
-      all = λ q after lt w. elim (cases_lt q s.n) [
-        | inl old ↦ let f = s.below.all q after old w in (f.0, Contains-append_left s.more (m ∷ []) f.0 f.1, f.2)
-        | inr le ↦ elim (cases_eq q p) [
-          | inl e ↦ (m, Contains-push s.more m, at ∙ sym e)
-          | inr ne ↦ absurd (passed q after (omega (arith, lt, ne)) le w)
-        ]
-      ];
-      rising = all_pairs_push (λ x y. x.place < y.place) s.more m s.below.rising
-          (λ k d lt. let old = s.below.each (get_or s.more k d) (Contains-get_or s.more k d lt) in omega (arith, old.1, at, from));
-    };
-    left = left_now;
-  }
-
-pub adding_end : (touch : List Touch) (cells : List Cell) (t : Turn) (before moves : List LocalMove) (rest : Places) → IsTurn touch cells t
-    → Adding touch cells t before moves rest → ((q : ℕ) → ¬ Has rest q) → AddsMoves touch cells t.colour before moves
-adding_end touch cells t before moves rest turn s none = (
-  s.more,
-  s.appended,
-  record {
-    each = λ m h. let w = s.below.each m h in (w.0, omega (arith, w.2.move.place, turn.long), w.2);
-    all = λ q after lt m. elim (cases_lt q s.n) [
-      | inl old ↦ s.below.all q after old m
-      | inr le ↦ absurd (none q ((s.left q).1 ((turn.empty q).1 (lt, m.free), le)))
-    ];
-    rising = s.below.rising;
-  },
-)
+use Rattle.local_play.specs.inner.Lasting.{IsTurn}
+use Rattle.local_play.specs.inner.Giving.{ListsBelow, AreEarlier, IsGiving}
 
 -- pairs of a list and another behind it
 pairs_append : {X : Type 0} (R : X → X → Type 0) (xs ys : List X) → AllPairs R xs → AllPairs R ys
@@ -150,33 +47,209 @@ colours colour.Black = inl refl
 colours colour.White = inr refl
 
 -- Black's moves and then White's are all moves of the position
-pub all_moves : (touch : List Touch) (cells : List Cell) (c d : Colour) (start between moves : List LocalMove) → length cells ≡ length touch
-    → start ≡ [] → c ≡ colour.Black → d ≡ colour.White → AddsMoves touch cells c start between → AddsMoves touch cells d between moves
-    → ListsLocalMoves touch cells moves
-all_moves touch cells c d start between moves long es ec ed (black, eb, bb') (white, ew, bw') =
-    let bb = subst (λ x. ListsBelow touch cells x (length touch) black) ec bb' in
-    let bw = subst (λ x. ListsBelow touch cells x (length touch) white) ed bw' in
-    let whole : moves ≡ black ++ white = ew ∙ ap (λ l. l ++ white) (eb ∙ ap (λ l. l ++ black) es) in
-    subst (ListsLocalMoves touch cells) (sym whole) record {
-      legal = λ m h. elim (Contains-append_cases black white m h) [
-        | inl b ↦ (bb.each m b).2
-        | inr w ↦ (bw.each m w).2
-      ];
-      all = λ e p after m. elim (colours e) [
-        | inl same ↦
-            let found = bb.all p after (omega (arith, m.place, long)) (subst (λ x. IsLocalMove touch cells x p after) same m) in
-            (found.0, Contains-append_left black white found.0 found.1, (bb.each found.0 found.1).0 ∙ sym same, found.2)
-        | inr same ↦
-            let found = bw.all p after (omega (arith, m.place, long)) (subst (λ x. IsLocalMove touch cells x p after) same m) in
-            (found.0, Contains-append_right black white found.0 found.1, (bw.each found.0 found.1).0 ∙ sym same, found.2)
-      ];
-      in_order = pairs_append StandsBefore black white
-          (one_colour colour.Black black bb) (one_colour colour.White white bw)
-          (λ x y hx hy. inr ((bb.each x hx).0, (bw.each y hy).0));
-    }
+all_moves : (touch : List Touch) (cells : List Cell) (black white : List LocalMove) → length cells ≡ length touch
+    → ListsBelow touch cells colour.Black (length touch) black → ListsBelow touch cells colour.White (length touch) white
+    → ListsLocalMoves touch cells (black ++ white)
+all_moves touch cells black white long bb bw = record {
+  legal = λ m h. elim (Contains-append_cases black white m h) [
+    | inl b ↦ (bb.each m b).2
+    | inr w ↦ (bw.each m w).2
+  ];
+  all = λ e p after m. elim (colours e) [
+    | inl same ↦
+        let found = bb.all p after (omega (arith, m.place, long)) (subst (λ x. IsLocalMove touch cells x p after) same m) in
+        (found.0, Contains-append_left black white found.0 found.1, (bb.each found.0 found.1).0 ∙ sym same, found.2)
+    | inr same ↦
+        let found = bw.all p after (omega (arith, m.place, long)) (subst (λ x. IsLocalMove touch cells x p after) same m) in
+        (found.0, Contains-append_right black white found.0 found.1, (bw.each found.0 found.1).0 ∙ sym same, found.2)
+  ];
+  in_order = pairs_append StandsBefore black white
+      (one_colour colour.Black black bb) (one_colour colour.White white bw)
+      (λ x y hx hy. inr ((bb.each x hx).0, (bw.each y hy).0));
+}
   where
     one_colour : (c : Colour) (xs : List LocalMove) → ListsBelow touch cells c (length touch) xs → AllPairs StandsBefore xs
     one_colour c xs l i j d lt short =
         let first = l.each (get_or xs i d) (Contains-get_or xs i d (omega arith)) in
         let second = l.each (get_or xs j d) (Contains-get_or xs j d short) in
         inl (first.0 ∙ sym second.0, l.rising i j d lt short)
+
+-- no moves below the first place
+none_below : (touch : List Touch) (cells : List Cell) (c : Colour) → ListsBelow touch cells c 0 []
+none_below touch cells c = record {
+  each = λ m h. absurd (omega (arith, h.1));
+  all = λ p after lt. absurd (omega arith);
+  rising = λ i j d lt short. absurd (omega arith);
+}
+
+-- at the start of a colour's turn all its empty places are left
+turn_starts : (touch : List Touch) (cells : List Cell) (given : List LocalMove) (s : LocalMoves) → IsTurn touch cells s.turn
+    → AreEarlier touch cells s.turn.colour given → s.rest ≡ s.turn.empty → HaveGiven touch cells given s
+turn_starts touch cells given s turn before all = record {
+  below = 0;
+  giving = record {
+    turn = turn;
+    earlier = given;
+    before = before;
+    more = [];
+    appended = sym (append-nil given);
+    below = none_below touch cells s.turn.colour;
+    left = λ q. (λ h. (subst (λ x. Has x q) all h, omega arith), λ w. subst (λ x. Has x q) (sym all) w.0);
+  };
+}
+
+pub black_starts : (touch : List Touch) (cells : List Cell) (s : LocalMoves) → IsTurn touch cells s.turn → s.turn.colour ≡ colour.Black
+    → s.rest ≡ s.turn.empty → HaveGiven touch cells [] s
+black_starts touch cells s turn black all =
+    turn_starts touch cells [] s turn (subst (λ c. AreEarlier touch cells c []) (sym black) refl) all
+
+-- each move that was given is one of the position
+earlier_legal : (touch : List Touch) (cells : List Cell) (c : Colour) (earlier : List LocalMove) → AreEarlier touch cells c earlier
+    → (m : LocalMove) → Contains earlier m → IsMoveFrom touch cells m
+earlier_legal touch cells colour.Black earlier none m h = let w = subst (λ l. Contains l m) none h in absurd (omega (arith, w.1))
+earlier_legal touch cells colour.White earlier black m h = (black.each m h).2
+
+pub given_legal : (touch : List Touch) (cells : List Cell) (given : List LocalMove) (s : LocalMoves) → HaveGiven touch cells given s
+    → (m : LocalMove) → Contains given m → IsMoveFrom touch cells m
+given_legal touch cells given s have m h =
+    let g = have.giving in
+    elim (Contains-append_cases g.earlier g.more m (subst (λ l. Contains l m) g.appended h)) [
+      | inl old ↦ earlier_legal touch cells s.turn.colour g.earlier g.before m old
+      | inr new ↦ (g.below.each m new).2
+    ]
+
+module _ (touch : List Touch) (cells : List Cell) (given : List LocalMove) (s : LocalMoves) (have : HaveGiven touch cells given s)
+    (none : (q : ℕ) → ¬ Has s.rest q) where
+  g : IsGiving touch cells given s have.below have.below
+  g = have.giving
+
+  -- where no place is left, all moves of the colour were given
+  whole : ListsBelow touch cells s.turn.colour (length touch) g.more
+  whole = record {
+    each = λ m h. let w = g.below.each m h in (w.0, omega (arith, w.2.move.place, g.turn.long), w.2);
+    all = λ q after lt m. elim (cases_lt q have.below) [
+      | inl old ↦ g.below.all q after old m
+      | inr le ↦ absurd (none q ((g.left q).1 ((g.turn.empty q).1 (lt, m.free), le)))
+    ];
+    rising = g.below.rising;
+  }
+
+  -- White's turn after Black's
+  pub white_starts : (after : LocalMoves) → s.turn.colour ≢ colour.White → after.turn.colour ≡ other s.turn.colour → IsTurn touch cells after.turn
+      → after.rest ≡ after.turn.empty → HaveGiven touch cells given after
+  white_starts after black turned turn all =
+      let first : s.turn.colour ≡ colour.Black = elim (colours s.turn.colour) [ inl e ↦ e | inr e ↦ absurd (black e) ] in
+      let white : after.turn.colour ≡ colour.White = turned ∙ ap other first in
+      let nothing : g.earlier ≡ [] = subst (λ c. AreEarlier touch cells c g.earlier) first g.before in
+      let same : given ≡ g.more = g.appended ∙ ap (λ l. l ++ g.more) nothing in
+      turn_starts touch cells given after turn
+      (subst (λ c. AreEarlier touch cells c given) (sym white)
+      (subst (ListsBelow touch cells colour.Black (length touch)) (sym same) (subst (λ c. ListsBelow touch cells c (length touch) g.more) first whole)))
+      all
+
+  -- after White's turn all moves were given
+  pub all_given : s.turn.colour ≡ colour.White → ListsLocalMoves touch cells given
+  all_given last =
+      let white = subst (λ c. ListsBelow touch cells c (length touch) g.more) last whole in
+      let black = subst (λ c. AreEarlier touch cells c g.earlier) last g.before in
+      subst (ListsLocalMoves touch cells) (sym g.appended) (all_moves touch cells g.earlier g.more g.turn.long black white)
+
+-- the lowest place that is left is the next to try
+pub place_taken : (touch : List Touch) (cells : List Cell) (given : List LocalMove) (s after : LocalMoves) (one : Places) (p : ℕ)
+    → HaveGiven touch cells given s → Has s.rest p → ((q : ℕ) → q < p → ¬ Has s.rest q) → ((q : ℕ) → Has one q ↔ (q ≡ p))
+    → ((q : ℕ) → Has after.rest q ↔ (Has s.rest q × ¬ Has one q)) → after.turn ≡ s.turn
+    → Has after.turn.empty p × IsGiving touch cells given after p (p + 1)
+place_taken touch cells given s after one p have here lowest is_one is_rest same =
+    let stays : IsGiving touch cells given (record { turn = s.turn; rest = after.rest }) p (p + 1) = record {
+      turn = g.turn;
+      earlier = g.earlier;
+      before = g.before;
+      more = g.more;
+      appended = g.appended;
+      below = record {
+        each = λ m h. let w = g.below.each m h in (w.0, omega (arith, w.1, from), w.2);
+        all = λ q later lt m. elim (cases_lt q have.below) [
+          | inl old ↦ g.below.all q later old m
+          | inr le ↦ absurd (lowest q lt ((g.left q).1 ((g.turn.empty q).1 (omega (arith, m.place, g.turn.long), m.free), le)))
+        ];
+        rising = g.below.rising;
+      };
+      left = left_now;
+    } in
+    subst (λ t. Has t.empty p × IsGiving touch cells given (record { turn = t; rest = after.rest }) p (p + 1)) (sym same)
+    (((g.left p).0 here).0, stays)
+  where
+    g : IsGiving touch cells given s have.below have.below
+    g = have.giving
+
+    from : have.below ≤ p
+    from = ((g.left p).0 here).1
+
+    left_now : (q : ℕ) → Has after.rest q ↔ (Has s.turn.empty q × (p + 1 ≤ q))
+    left_now q = (
+      λ h.
+          let w = (is_rest q).0 h in (
+            ((g.left q).0 w.0).0,
+            elim (cases_lt q p) as (λ _. p + 1 ≤ q) [
+              | inl lt ↦ absurd (lowest q lt w.0)
+              | inr le ↦ let ne : q ≢ p = λ e. w.1 ((is_one q).1 e) in omega (arith, ne, le)
+            ],
+          ),
+      λ w. (is_rest q).1 ((g.left q).1 (w.0, omega (arith, w.1, from)), λ h. let e = (is_one q).0 h in absurd (omega (arith, w.1, e))),
+    )
+
+module _ (touch : List Touch) (cells : List Cell) (given : List LocalMove) (s : LocalMoves) (p : ℕ) (g : IsGiving touch cells given s p (p + 1)) where
+  wider : (m : LocalMove) → (m.colour ≡ s.turn.colour) × (m.place < p) × IsMoveFrom touch cells m
+      → (m.colour ≡ s.turn.colour) × (m.place < p + 1) × IsMoveFrom touch cells m
+  wider m (c, lt, w) = (c, omega (arith, lt), w)
+
+  -- where the stone is illegal
+  pub none_given : ((after : List Cell) → ¬ IsLocalMove touch cells s.turn.colour p after) → HaveGiven touch cells given s
+  none_given none = record {
+    below = p + 1;
+    giving = record {
+      turn = g.turn;
+      earlier = g.earlier;
+      before = g.before;
+      more = g.more;
+      appended = g.appended;
+      below = record {
+        each = λ m h. wider m (g.below.each m h);
+        all = λ q after lt m. elim (cases_eq q p) [
+          | inl e ↦ absurd (none after (subst (λ x. IsLocalMove touch cells s.turn.colour x after) e m))
+          | inr ne ↦ g.below.all q after (omega (arith, lt, ne)) m
+        ];
+        rising = g.below.rising;
+      };
+      left = g.left;
+    };
+  }
+
+  -- where it is a move
+  pub one_given : (m : LocalMove) → m.colour ≡ s.turn.colour → m.place ≡ p → IsMoveFrom touch cells m
+      → HaveGiven touch cells (given ++ m ∷ []) s
+  one_given m c at new = record {
+    below = p + 1;
+    giving = record {
+      turn = g.turn;
+      earlier = g.earlier;
+      before = g.before;
+      more = g.more ++ m ∷ [];
+      appended = ap (λ l. l ++ m ∷ []) g.appended ∙ append_assoc g.earlier g.more (m ∷ []);
+      below = record {
+        each = λ x h. elim (Contains-push_cases g.more m x h) [
+          | inl old ↦ wider x (g.below.each x old)
+          | inr e ↦ subst (λ y. (y.colour ≡ s.turn.colour) × (y.place < p + 1) × IsMoveFrom touch cells y) e (c, omega (arith, at), new)
+        ];
+        all = λ q after lt w. elim (cases_eq q p) [
+          | inl e ↦ (m, Contains-push g.more m, at ∙ sym e)
+          | inr ne ↦
+              let f = g.below.all q after (omega (arith, lt, ne)) w in
+              (f.0, Contains-append_left g.more (m ∷ []) f.0 f.1, f.2)
+        ];
+        rising = all_pairs_push (λ x y. x.place < y.place) g.more m g.below.rising
+            (λ k d lt. let old = g.below.each (get_or g.more k d) (Contains-get_or g.more k d lt) in omega (arith, old.1, at));
+      };
+      left = g.left;
+    };
+  }

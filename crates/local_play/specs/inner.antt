@@ -1,4 +1,5 @@
 -- What loops and private calls keep; no public clause cites it.
+pub mod Giving
 pub mod Lasting
 pub mod Links
 pub mod LocalPlay

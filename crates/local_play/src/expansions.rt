@@ -6,33 +6,16 @@ ghost use Rattle.go_grid.specs.declared.region.Touch.{Touch};
 ghost use Rattle.local_play.specs.Packed.{pack};
 ghost use Rattle.local_play.specs.Moves.{ListsLocalMoves, IsPosition};
 ghost use Rattle.local_play.specs.Links.{IsTable};
-ghost use Rattle.local_play.specs.inner.Lasting.{IsTurn, AddsMoves};
 
 use crate::links::Links;
 use crate::local::Local;
-use crate::local_move::{LocalMove, Turn};
-use crate::places::{MOST_PLACES, Places};
+use crate::local_move::LocalMove;
+use crate::local_moves::LocalMoves;
+use crate::places::MOST_PLACES;
 use crate::steps::Steps;
 use go_grid::Region;
 use std::alloc::{AllocError, Global};
 use std::sync::ledger::Ledger;
-
-/// Adds the moves of a colour, by place.
-#[inline(always)]
-fn add_moves(links: &Links, turn: &Turn, moves: &mut Vec<LocalMove>) -> Result<(), AllocError>
-    ensures { (touch : List Touch) (cells : List Cell) → IsTable touch links.now
-        → IsTurn touch cells turn.now
-        → OnOk result (AddsMoves touch cells turn.now.colour moves.old.items moves.new.items) }
-{
-    let mut rest = turn.empty;
-    'placing: while let Some(place) = rest.first() {
-        rest = rest.without(Places::of(place));
-        if let Some(found) = turn.try_stone(links, place) {
-            moves.push(found)?;
-        }
-    }
-    Ok(())
-}
 
 /// Makes the list that of all legal local moves of a position of the region that the links are of: Black's by place and
 /// then White's. It takes one step.
@@ -47,11 +30,11 @@ pub fn list_moves<L: Ledger>(
         → OnOk result (ListsLocalMoves touch cells moves.new.items) }
     ensures step { steps.new ≡ steps.old + 1 }
 {
-    steps.tick();
     moves.clear();
-    let black = Turn::of(links, from);
-    add_moves(links, &black, moves)?;
-    add_moves(links, &black.other(), moves)?;
+    let mut left = LocalMoves::of(links, from, steps);
+    'listing: while let Some(found) = left.next(links) {
+        moves.push(found)?;
+    }
     Ok(())
 }
 

@@ -4,7 +4,7 @@ use Rattle.std.specs.List.{AllPairs}
 use Rattle.go_grid.specs.declared.grid.Cell.{Cell}
 use Rattle.go_grid.specs.declared.region.Touch.{Touch}
 use Rattle.local_play.specs.Links.{IsTable}
-use Rattle.local_play.specs.Moves.{ListsLocalMoves}
+use Rattle.local_play.specs.Moves.{ListsLocalMoves, IsMoveFrom}
 use Rattle.local_play.specs.Packed.{pack}
 use Rattle.local_play.specs.declared.links.Links.{Links}
 use Rattle.local_play.specs.declared.local_move.LocalMove.{LocalMove}
@@ -65,12 +65,16 @@ pub record IsPositionOn (links : Links) (count n : ℕ) : Type 0 where
   pub few : length cells ≤ 32
   pub numbers : count ≡ 3 ^ length cells
 
+-- each is a legal move of the position
+abbrev pub AreMovesFrom : List Touch → List Cell → List LocalMove → Type 0
+AreMovesFrom touch cells moves = (m : LocalMove) → Contains moves m → IsMoveFrom touch cells m
+
 -- the edges of the position's moves, or why there are none
 abbrev pub EdgesFrom : List Touch → List Cell → List ℕ → ℕ → List ℕ → List Edge → Result (Unit {0}) GraphError → Type 0
 EdgesFrom touch cells before limit after edges (Ok done) =
     (moves : List LocalMove) × ListsLocalMoves touch cells moves × EdgesFor before moves limit after edges (Ok done)
 EdgesFrom touch cells before limit after edges (Err Positions) =
-    (moves : List LocalMove) × ListsLocalMoves touch cells moves × EdgesFor before moves limit after edges (Err Positions)
+    (moves : List LocalMove) × AreMovesFrom touch cells moves × EdgesFor before moves limit after edges (Err Positions)
 EdgesFrom touch cells before limit after edges (Err (Points p)) = ⊥
 EdgesFrom touch cells before limit after edges (Err (Cycle ms back)) = ⊥
 EdgesFrom touch cells before limit after edges (Err (Memory e)) = Unit {0}

@@ -1,6 +1,5 @@
 -- Chains that no one stone takes, and where a stone may stand.
-use Rattle.std.specs.Prelude.{◌≡◌, ◌≢◌, ℕ, ◌<◌, ◌↔◌, ◌⊎◌, List, ◌++◌, Option, None, Some, length, Contains}
-use Rattle.std.specs.List.{AllPairs}
+use Rattle.std.specs.Prelude.{◌≡◌, ◌≢◌, ℕ, ◌<◌, ◌↔◌, ◌⊎◌, List, Option, None, Some, length}
 use Rattle.go_grid.specs.declared.grid.Cell.{Cell}
 use Rattle.go_grid.specs.declared.grid.Cell.TheVariants as cell
 use Rattle.go_grid.specs.declared.grid.Colour.{Colour}
@@ -99,18 +98,3 @@ pub record IsTurn (touch : List Touch) (cells : List Cell) (t : Turn) : Type 0 w
 abbrev pub IsTried : List Touch → List Cell → ℕ → Colour → Option LocalMove → Type 0
 IsTried touch cells p c None = (after : List Cell) → ¬ IsLocalMove touch cells c p after
 IsTried touch cells p c (Some m) = (m.colour ≡ c) × (m.place ≡ p) × IsMoveFrom touch cells m
-
--- the list has the moves of the colour at places below `n`, by place
-pub record ListsBelow (touch : List Touch) (cells : List Cell) (c : Colour) (n : ℕ)
-    (moves : List LocalMove) : Type 0 where
-  pub each : (m : LocalMove) → Contains moves m
-      → (m.colour ≡ c) × (m.place < n) × IsMoveFrom touch cells m
-  pub all : (p : ℕ) (after : List Cell) → p < n → IsLocalMove touch cells c p after
-      → (m : LocalMove) × Contains moves m × (m.place ≡ p)
-  pub rising : AllPairs (λ m n'. m.place < n'.place) moves
-
--- the moves of the colour were appended, by place
-abbrev pub AddsMoves : List Touch → List Cell → Colour → List LocalMove → List LocalMove → Type 0
-AddsMoves touch cells c before after =
-    (more : List LocalMove) × (after ≡ before ++ more)
-    × ListsBelow touch cells c (length touch) more
