@@ -1,10 +1,11 @@
 //! A region's graph, and the values of its positions by budget.
 
-ghost use Rattle.std.specs.Prelude.{◌≡◌, ℕ, ◌+◌, ◌^◌, ◌<◌, ◌≤◌, ◌⊎◌, IfErr, IfOk, MatchOption, Ok, Err, Some, None, ◌≢◌, length, min};
+ghost use Rattle.std.specs.Prelude.{◌≡◌, ℕ, ◌+◌, ◌^◌, ◌<◌, ◌≤◌, ◌⊎◌, IfErr, IfOk, OnOk, MatchOption, Ok, Err, Some, None, ◌≢◌, length, min};
 ghost use Rattle.cycle_solver.specs.declared.faults.CycleError.TheVariants.{Captures};
 ghost use Rattle.game_store.specs.Meaning.{Extends};
 ghost use Rattle.local_graph.specs.LocalGraph.{MoreThan};
 ghost use Rattle.local_value.specs.BudgetValues.{IsReturnGraphOf};
+ghost use Rattle.local_value.specs.Remembered.{IsRememberedRight};
 ghost use Rattle.cycle_solver.specs.GameLists.{layers_for};
 ghost use Rattle.cycle_solver.specs.Held.{IsGameOf};
 ghost use Rattle.cycle_solver.specs.Games.{IsGraphWithin, IsRefusalOf, IsSolvedBy, MayBeSteady};
@@ -16,7 +17,7 @@ use game_store::Store;
 use go_grid::{Colour, Point, Region};
 use local_graph::{GraphError, MOST_POSITIONS, ReturnGraph, build_with_returns};
 use local_play::Steps;
-use local_value::{BudgetError, SteadyValues, value_steady};
+use local_value::{BudgetError, SteadyValues, ValueMemo, value_steady_with};
 use std::alloc::Global;
 use std::sync::ledger::Ledger;
 
@@ -72,17 +73,20 @@ fn values_of(
     limits: &Limits,
     most: u8,
     store: &mut Store,
+    memo: &mut ValueMemo,
 ) -> Result<Option<SteadyValues>, CycleError>
     requires points { length region.now.points ≤ 32 }
     requires graph { IsGraphWithin limits.now.positions region.now graph.now }
     requires limit { limits.now.positions ≤ MOST_POSITIONS }
+    requires memo { IsRememberedRight store.old limits.now.parts memo.old }
     ensures values { IfOk result
         (λ x. MayBeSteady limits.now most region.now graph.now colour store.new x) }
     ensures refusal { IfErr result (λ e. IsRefusalOf limits.now most region.now e) }
+    ensures memo { OnOk result (IsRememberedRight store.new limits.now.parts memo.new) }
     ensures kept { Extends store.old store.new }
 {
     let lowest = region.points[0];
-    match value_steady(alloc, graph, colour, store, most, limits.parts) {
+    match value_steady_with(alloc, graph, colour, store, memo, most, limits.parts) {
         Ok(values) => Ok(Some(values)),
         Err(BudgetError::Captures) => Ok(None),
         Err(BudgetError::Form(FormError::Parts)) => Err(CycleError::Form(lowest)),
@@ -135,8 +139,59 @@ fn together(
     }
 }
 
-/// The values of a region with its graph.
+/// The values of a region with its graph. What Black's needed is remembered for White's.
 fn values_of_both(
+    alloc: Global,
+    region: &Region,
+    graph: &ReturnGraph,
+    limits: &Limits,
+    most: u8,
+    store: &mut Store,
+    memo: &mut ValueMemo,
+) -> Result<BothValues, CycleError>
+    requires points { length region.now.points ≤ 32 }
+    requires graph { IsGraphWithin limits.now.positions region.now graph.now }
+    requires limit { limits.now.positions ≤ MOST_POSITIONS }
+    requires memo { IsRememberedRight store.old limits.now.parts memo.old }
+    ensures solved { IfOk result (λ both. IsSolvedBy limits.now most region.now store.new
+        (record { graph = graph.now; black = both.black; white = both.white })) }
+    ensures refusal { IfErr result (λ e. IsRefusalOf limits.now most region.now e) }
+    ensures kept { Extends store.old store.new }
+{
+    let lowest = region.points[0];
+    let black = values_of(
+        alloc,
+        region,
+        graph,
+        Colour::Black,
+        limits,
+        most,
+        store,
+        memo,
+    )?;
+    if !graph.has_cycle() {
+        return alone(black, lowest);
+    }
+    match values_of(
+        alloc,
+        region,
+        graph,
+        Colour::White,
+        limits,
+        most,
+        store,
+        memo,
+    ) {
+        Ok(white) => together(black, white, lowest),
+        Err(fault) => {
+            drop(black);
+            Err(fault)
+        }
+    }
+}
+
+/// The values of a region with its graph, with nothing remembered before or behind.
+fn values_of_region(
     alloc: Global,
     region: &Region,
     graph: &ReturnGraph,
@@ -152,18 +207,10 @@ fn values_of_both(
     ensures refusal { IfErr result (λ e. IsRefusalOf limits.now most region.now e) }
     ensures kept { Extends store.old store.new }
 {
-    let lowest = region.points[0];
-    let black = values_of(alloc, region, graph, Colour::Black, limits, most, store)?;
-    if !graph.has_cycle() {
-        return alone(black, lowest);
-    }
-    match values_of(alloc, region, graph, Colour::White, limits, most, store) {
-        Ok(white) => together(black, white, lowest),
-        Err(fault) => {
-            drop(black);
-            Err(fault)
-        }
-    }
+    let mut memo = ValueMemo::new(alloc);
+    let both = values_of_both(alloc, region, graph, limits, most, store, &mut memo);
+    drop(memo);
+    both
 }
 
 /// The graph and the values of a region.
@@ -184,7 +231,7 @@ pub(crate) fn region_game<L: Ledger>(
         (3 ^ length region.now.points) }
 {
     let graph = graph_of(alloc, region, limits, steps)?;
-    match values_of_both(alloc, region, &graph, limits, most, store) {
+    match values_of_region(alloc, region, &graph, limits, most, store) {
         Ok(both) => Ok(RegionGame {
             graph,
             black: both.black,

@@ -22,26 +22,29 @@ returns-in-Err-Form-Bounds-clause-refusal c =
 pub returns-in-Ok-clause-refusal : goal.returns-in-Ok-clause-refusal
 returns-in-Ok-clause-refusal c = tt
 
+pub returns-in-Ok-clause-memo : goal.returns-in-Ok-clause-memo
+returns-in-Ok-clause-memo c = c.in-Ok.ensures.memo
+
 pub returns-in-Ok-clause-kept : goal.returns-in-Ok-clause-kept
-returns-in-Ok-clause-kept c = c.value_steady.ensures.kept
+returns-in-Ok-clause-kept c = c.value_steady_with.ensures.kept
 
 pub returns-in-Err-Captures-clause-refusal : goal.returns-in-Err-Captures-clause-refusal
 returns-in-Err-Captures-clause-refusal c = tt
 
 pub returns-in-Err-Captures-clause-kept : goal.returns-in-Err-Captures-clause-kept
-returns-in-Err-Captures-clause-kept c = c.value_steady.ensures.kept
+returns-in-Err-Captures-clause-kept c = c.value_steady_with.ensures.kept
 
 pub returns-in-Err-Form-Parts-clause-values : goal.returns-in-Err-Form-Parts-clause-values
 returns-in-Err-Form-Parts-clause-values c = tt
 
 pub returns-in-Err-Form-Parts-clause-kept : goal.returns-in-Err-Form-Parts-clause-kept
-returns-in-Err-Form-Parts-clause-kept c = c.value_steady.ensures.kept
+returns-in-Err-Form-Parts-clause-kept c = c.value_steady_with.ensures.kept
 
 pub returns-in-Err-Form-Bounds-clause-values : goal.returns-in-Err-Form-Bounds-clause-values
 returns-in-Err-Form-Bounds-clause-values c = tt
 
 pub returns-in-Err-Form-Bounds-clause-kept : goal.returns-in-Err-Form-Bounds-clause-kept
-returns-in-Err-Form-Bounds-clause-kept c = c.value_steady.ensures.kept
+returns-in-Err-Form-Bounds-clause-kept c = c.value_steady_with.ensures.kept
 
 pub returns-in-Err-Form-Memory-clause-values : goal.returns-in-Err-Form-Memory-clause-values
 returns-in-Err-Form-Memory-clause-values c = tt
@@ -50,4 +53,4 @@ pub returns-in-Err-Form-Memory-clause-refusal : goal.returns-in-Err-Form-Memory-
 returns-in-Err-Form-Memory-clause-refusal c = tt
 
 pub returns-in-Err-Form-Memory-clause-kept : goal.returns-in-Err-Form-Memory-clause-kept
-returns-in-Err-Form-Memory-clause-kept c = c.value_steady.ensures.kept
+returns-in-Err-Form-Memory-clause-kept c = c.value_steady_with.ensures.kept

@@ -79,3 +79,9 @@ values_of-requires-2-clause-graph c = c.requires.graph
 
 pub values_of-requires-2-clause-limit : goal.values_of-requires-2-clause-limit
 values_of-requires-2-clause-limit c = c.requires.limit
+
+pub values_of-requires-clause-memo : goal.values_of-requires-clause-memo
+values_of-requires-clause-memo c = c.requires.memo
+
+pub values_of-requires-2-clause-memo : goal.values_of-requires-2-clause-memo
+values_of-requires-2-clause-memo c = c.in_ok-black.ensures.memo
