@@ -12,7 +12,7 @@ use Rattle.gtp_words.specs.Vertices.{vertex_text}
 use Rattle.fault_words.specs.FaultWords.{AreFaultWords}
 use Rattle.go_play.specs.Setup.{Setup}
 use Rattle.endgame_solver.specs.declared.faults.SolveError.{SolveError}
-use Rattle.endgame_solver.specs.declared.limits.Limits.{Limits}
+use Rattle.endgame_solver.specs.Limits.{Limits}
 use Rattle.endgame_solver.specs.Solved.{Begun, Solved}
 use Rattle.whole_rules.specs.WholeGame.{Whole}
 use Rattle.report.specs.declared.score.Score.{Score}
@@ -38,14 +38,14 @@ text_found IsText id text (Err e) is h = tt
 
 -- what is told of the game that a position opens is told of the position
 pub replies_in : {E : Type 0} (limits : Limits) (topic : Topic) (setup : Setup) (game : Solved) (id : List ℕ) (result : Result (List ℕ) E) → IsSettled setup.board
-    → Begun setup limits (Ok game) → IfOk result (RepliesOn topic game.regions game.state setup.komi_halves id) → IfOk result (RepliesIn limits topic setup id)
+    → Begun setup false limits (Ok game) → IfOk result (RepliesOn topic game.regions game.state setup.komi_halves id) → IfOk result (RepliesIn limits topic setup id)
 replies_in limits topic setup game id (Ok reply) settled (opening, are_regions, sound) (finding, finds, says) =
     (finding, inl (settled, (game.state, record { regions = game.regions; are_regions = are_regions; sound = sound; opening = opening }, finds)), says)
 replies_in limits topic setup game id (Err e) settled begun h = tt
 
 -- the words on a fault are told
 pub fault_told : {E : Type 0} (limits : Limits) (topic : Topic) (setup : Setup) (fault : SolveError) (words id : List ℕ) (result : Result (List ℕ) E) → IsSettled setup.board
-    → Begun setup limits (Err fault) → AreFaultWords (vertex_text setup.board.columns setup.board.rows) limits fault words
+    → Begun setup false limits (Err fault) → AreFaultWords (vertex_text setup.board.columns setup.board.rows) limits fault words
     → IfOk result (λ reply. reply ≡ reply_text id (finding_said (none_found topic words))) → IfOk result (RepliesIn limits topic setup id)
 fault_told limits topic setup fault words id (Ok reply) settled begun are says = (none_found topic words, inr (words, inr (settled, inl (fault, begun, are)), refl), says)
 fault_told limits topic setup fault words id (Err e) settled begun are h = tt

@@ -21,7 +21,7 @@ use Rattle.board_session.specs.inner.Obeying.{IsLoadNoted, IsMet, IsObeyed}
 use Rattle.board_session.specs.Orders.{Asked, Asks, BoardOrder}
 use Rattle.board_session.specs.Orders.BoardOrder.{tell, known, ask, boardsize, clear_board, komi, play, genmove, reg_genmove, analyse, loadsgf, undo, fixed_handicap, free_handicap, quit}
 use Rattle.board_session.specs.Orders.Asked.{something, unknown, misfit}
-use Rattle.board_session.specs.Session.{AnswersWords, Does, Meets, Obeys, Said, TakesFile, done, game_limits, is_last, refused, reply_text}
+use Rattle.board_session.specs.Session.{AnswersWords, Does, Meets, Obeys, Said, TakesFile, done, is_last, refused, reply_text}
 use Rattle.board_session.specs.States.{BoardState}
 use Rattle.board_session.specs.Written.{BoardEngine, IsBoardReply}
 use Rattle.board_session.proofs.OrderLemmas.{followed_grown, order_grown}
@@ -75,7 +75,7 @@ module _ {E : Type 0} (limits : BoardLimits) (loads : Loads) (s u : BoardState) 
   plain_obeyed files faults id order (Err e) h = tt
 
   pub generated_obeyed : (files : Option Files) (faults : ℕ) (id : List ℕ) (order : BoardOrder) (c : Colour) → order ≡ genmove c → (result : Result (List ℕ) E)
-      → IfOk result (λ reply. IsGenerated limits.cycles (game_limits limits) c id s reply u)
+      → IfOk result (λ reply. IsGenerated limits.cycles limits.game c id s reply u)
       → IfOk result (λ reply. IsObeyed files faults faults id order a reply (record { limits = limits; state = u; loads = loads }))
   generated_obeyed files faults id order c asked (Ok reply) (said, generates, text) =
       subst (λ v. IsObeyed files faults faults id order v reply (record { limits = limits; state = u; loads = loads })) is
@@ -84,7 +84,7 @@ module _ {E : Type 0} (limits : BoardLimits) (loads : Loads) (s u : BoardState) 
   generated_obeyed files faults id order c asked (Err e) h = tt
 
   pub suggested_obeyed : (files : Option Files) (faults : ℕ) (id : List ℕ) (order : BoardOrder) (c : Colour) → order ≡ reg_genmove c → (result : Result (List ℕ) E)
-      → IfOk result (λ reply. IsSuggested limits.cycles (game_limits limits) c id s reply) → IfOk result (λ reply. IsObeyed files faults faults id order a reply a)
+      → IfOk result (λ reply. IsSuggested limits.cycles limits.game c id s reply) → IfOk result (λ reply. IsObeyed files faults faults id order a reply a)
   suggested_obeyed files faults id order c asked (Ok reply) (said, suggests, text) =
       subst (λ v. IsObeyed files faults faults id order v reply v) is
       (subst (λ o. IsObeyed files faults faults id o (record { limits = limits; state = s; loads = loads }) reply (record { limits = limits; state = s; loads = loads })) (sym asked)
@@ -92,7 +92,7 @@ module _ {E : Type 0} (limits : BoardLimits) (loads : Loads) (s u : BoardState) 
   suggested_obeyed files faults id order c asked (Err e) h = tt
 
   pub reported_obeyed : (files : Option Files) (faults : ℕ) (id : List ℕ) (order : BoardOrder) (x : Analysis) → order ≡ analyse x → (result : Result (List ℕ) E)
-      → IfOk result (IsReported limits.cycles (game_limits limits) x id s) → IfOk result (λ reply. IsObeyed files faults faults id order a reply a)
+      → IfOk result (IsReported limits.cycles limits.game x id s) → IfOk result (λ reply. IsObeyed files faults faults id order a reply a)
   reported_obeyed files faults id order x asked (Ok reply) (said, reports, text) =
       subst (λ v. IsObeyed files faults faults id order v reply v) is
       (subst (λ o. IsObeyed files faults faults id o (record { limits = limits; state = s; loads = loads }) reply (record { limits = limits; state = s; loads = loads })) (sym asked)

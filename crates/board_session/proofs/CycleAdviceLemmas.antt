@@ -8,7 +8,7 @@ use Rattle.go_play.specs.Setup.{Setup}
 use Rattle.whole_rules.specs.declared.states.Move.{Move}
 use Rattle.whole_rules.specs.declared.states.Move.TheVariants as move
 use Rattle.whole_rules.specs.WholeGame.{IsLegal, Whole}
-use Rattle.endgame_solver.specs.declared.limits.Limits.{Limits}
+use Rattle.endgame_solver.specs.Limits.{Limits}
 use Rattle.cycle_solver.specs.declared.faults.CycleError.{CycleError}
 use Rattle.cycle_solver.specs.declared.faults.CycleError.TheVariants.{Points, Positions, Form, Captures, Memory}
 use Rattle.engine_player.specs.declared.player.TheConstants.{MOST_CAPTURES}
@@ -35,7 +35,7 @@ unsettled_advises false limits setup passes p words first is = inl (p, first, is
 unsettled_advises true limits setup passes p words first is = inl (p, first, is)
 
 -- the point that a fault names is one of the board
-pub names_point : (setup : Setup) (limits : Limits) (most : ℕ) (fault : CycleError) → BeginsPlay setup limits most (Err fault) → NamesPoint (length setup.board.cells) fault
+pub names_point : (setup : Setup) (limits : Limits) (most : ℕ) (fault : CycleError) → BeginsPlay setup false limits most (Err fault) → NamesPoint (length setup.board.cells) fault
 names_point setup limits most (Points p n) (regions, are, first) =
     subst (λ q. q < length setup.board.cells) (sym first.2) (lowest_on_board setup.board regions are first.0 first.1)
 names_point setup limits most (Positions p) (regions, are, (small, first)) =
@@ -58,7 +58,7 @@ moves_anew p q m nothing (left, moves, is) =
 
 -- what is told in a game that begins so is told in the position that opens it
 pub told_with_cycles : (limits : Limits) (setup : Setup) (passes : Tally) (p : Played) (a : Advice) → IsSettled setup.board
-    → BeginsPlay setup limits MOST_CAPTURES (Ok p) → IsToldWithCycles passes p a → AdvisesWithCycles limits setup passes a
+    → BeginsPlay setup false limits MOST_CAPTURES (Ok p) → IsToldWithCycles passes p a → AdvisesWithCycles limits setup passes a
 told_with_cycles limits setup passes p (chosen m) settled (opening, are, steady, black, white, none_made) (pay, moves) = (
   after_passes passes p.state,
   record {
@@ -85,7 +85,7 @@ told_with_cycles limits setup passes p (unopened words) settled (opening, are, s
     inr (settled, inr (p.state, record { regions = p.keeping.regions; are_regions = are; steady = steady; opening = opening }, not, is))
 
 -- a game with cycles is one that its position opens
-pub opens_so : {limits : Limits} {setup : Setup} {passes : Tally} {w : Whole} → OpensWithCycles limits setup passes w → OpensSo limits.tax setup passes w
+pub opens_so : {limits : Limits} {setup : Setup} {passes : Tally} {w : Whole} → OpensWithCycles limits setup passes w → OpensSo false setup passes w
 opens_so opens = record { start = opens.start; opening = opens.playable.opening; pay = opens.pay; less = opens.less }
 
 -- A legal move in a game that the position opens.

@@ -1,5 +1,5 @@
 -- What holds of moves that a session generates where kos can arise.
-use Rattle.std.proofs.Common.{◌≡◌, ℕ, ℤ, List, arith, inl, inr, refl, sym, ap, ◌∙◌, subst, None, Err}
+use Rattle.std.proofs.Common.{◌≡◌, ℕ, ℤ, List, arith, inl, inr, refl, sym, ap, ◌∙◌, subst, None, Err, false}
 use Rattle.std.proofs.lemmas.List.Elements.{Contains-get_or}
 use Rattle.go_grid.specs.Board.{other}
 use Rattle.go_grid.specs.Chain.{IsSettled}
@@ -13,7 +13,7 @@ use Rattle.whole_rules.specs.declared.states.Move.TheVariants.{Stone, Spend, Hal
 use Rattle.whole_rules.specs.FirstWinningMove.{IsWinning}
 use Rattle.whole_rules.specs.PlainRecursion.{MoverWins, WinsWithin}
 use Rattle.whole_rules.specs.WholeGame.{IsMove, Leads, Whole}
-use Rattle.endgame_solver.specs.declared.limits.Limits.{Limits}
+use Rattle.endgame_solver.specs.Limits.{Limits}
 use Rattle.endgame_solver.specs.Regions.{no_region, region_at}
 use Rattle.endgame_solver.specs.Solved.{HasMove}
 use Rattle.endgame_solver.proofs.BeginLaws.{one_regions}
@@ -36,7 +36,7 @@ use Rattle.board_session.proofs.OpenedLemmas.{OpensSo, halved_on, opened_alike, 
 
 -- A move that puts no stone leads to a game of the same board, with the same regions.
 module _ {limits : Limits} {a : Position} {k : ℤ} {c : Colour} {w : Whole} (opens : OpensWithCycles limits (setup_of a k c) a.passes w) where
-  goes_on : (b : Position) (l : ℤ) (d : Colour) (t : Whole) → b.board ≡ a.board → OpensSo limits.tax (setup_of b l d) b.passes t
+  goes_on : (b : Position) (l : ℤ) (d : Colour) (t : Whole) → b.board ≡ a.board → OpensSo false (setup_of b l d) b.passes t
       → OpensWithCycles limits (setup_of b l d) b.passes t
   goes_on b l d t same so = record {
     settled = subst IsSettled (sym same) opens.settled;
@@ -70,7 +70,7 @@ anew_wins regions w m (t, left, moves) wins = (t, engine_moves_moved regions w t
 
 pub win_is_kept : WinIsKeptWithCycles
 win_is_kept limits s c m w (v, opens, moves) opened (n, wins) =
-    let (same, alike) = opened_alike limits.tax _ _ v w (opens_so opens) (opens_so opened) in
+    let (same, alike) = opened_alike false _ _ v w (opens_so opens) (opens_so opened) in
     let back : with_marks v w.contested ≡ w = ap (λ z. with_marks z w.contested) same in
     let won = anew_wins opens.playable.regions v m moves (n, subst (WinsWithin Whole Leads n) (sym same) (wins_alike n w v.contested alike wins)) in
     subst (λ z. IsWinning z m) back (winning_alike v w.contested m (λ p. ((alike p).1, (alike p).0)) won)
@@ -89,7 +89,7 @@ steady_not_refused limits rs (Captures p) name words steady (small, (k, lt, (low
     needed j (omega (arith, le)) least.steady
 steady_not_refused limits rs (Memory e) name words steady refused said = said
 
-begun_refused : (limits : Limits) (setup : Setup) (fault : CycleError) (name : ℕ → List ℕ) (words : List ℕ) → BeginsPlay setup limits MOST_CAPTURES (Err fault)
+begun_refused : (limits : Limits) (setup : Setup) (fault : CycleError) (name : ℕ → List ℕ) (words : List ℕ) → BeginsPlay setup false limits MOST_CAPTURES (Err fault)
     → AreCycleFaultWords name limits fault words → (regions : List Region) × AreRegionsOfPlay setup.board regions × AreRefused limits MOST_CAPTURES regions fault
 begun_refused limits setup (Points p n) name words begun said = begun
 begun_refused limits setup (Positions p) name words begun said = begun
@@ -108,13 +108,13 @@ opens_or_not limits setup passes w words opens (inr (settled, inl (fault, begun,
     steady_not_refused limits regions fault (vertex_text setup.board.columns setup.board.rows) words
     (subst (AreSteadyWithin limits MOST_CAPTURES) (one_regions setup.board opens.playable.regions regions opens.playable.are_regions are) opens.playable.steady) refused said
 opens_or_not limits setup passes w words opens (inr (settled, inr (start, playable, not, is))) =
-    not (subst (PayFor passes) (opened_purses limits.tax setup opens.start start opens.playable.opening playable.opening) opens.pay)
+    not (subst (PayFor passes) (opened_purses false setup opens.start start opens.playable.opening playable.opening) opens.pay)
 
 -- a move is chosen, or there is none
 chosen_or_none : (limits : Limits) (setup : Setup) (passes : Tally) (v w : Whole) (m : Move) (a : OpensWithCycles limits setup passes v) → OpensWithCycles limits setup passes w
     → MovesAnew a.playable.regions v m → ¬ HasMove w → ⊥
 chosen_or_none limits setup passes v w m a b moves none =
-    let (same, alike) = opened_alike limits.tax setup passes v w (opens_so a) (opens_so b) in
+    let (same, alike) = opened_alike false setup passes v w (opens_so a) (opens_so b) in
     let (t, move) = anew_legal v a.playable.regions m moves in
     none (m, (with_marks t w.contested, move_back w t v.contested m alike (subst (λ z. IsMove z m t) same move)))
 

@@ -1,5 +1,5 @@
 -- What holds of moves that a session generates.
-use Rattle.std.proofs.Common.{◌≡◌, ℕ, ℤ, zero, suc, List, arith, inl, inr, refl, sym, ap, ◌∙◌, subst, Err}
+use Rattle.std.proofs.Common.{◌≡◌, ℕ, ℤ, zero, suc, List, arith, inl, inr, refl, sym, ap, ◌∙◌, subst, Err, false}
 use Rattle.std.proofs.lemmas.List.Elements.{Contains-get_or}
 use Rattle.go_grid.specs.Board.{DeclaresNothing, other}
 use Rattle.go_grid.specs.Chain.{IsSettled}
@@ -13,7 +13,7 @@ use Rattle.whole_rules.specs.declared.states.Move.TheVariants.{Stone, Spend, Hal
 use Rattle.whole_rules.specs.FirstWinningMove.{IsWinning}
 use Rattle.whole_rules.specs.PlainRecursion.{MoverWins, WinsWithin}
 use Rattle.whole_rules.specs.WholeGame.{IsMove, Leads, Whole}
-use Rattle.endgame_solver.specs.declared.limits.Limits.{Limits}
+use Rattle.endgame_solver.specs.Limits.{Limits}
 use Rattle.endgame_solver.specs.declared.faults.SolveError.{SolveError}
 use Rattle.endgame_solver.specs.declared.faults.SolveError.TheVariants.{Points, Positions, Cycle, Form, Memory}
 use Rattle.endgame_solver.specs.Faults.{AreRefused, AreSound}
@@ -34,12 +34,12 @@ use Rattle.board_session.proofs.OpenedLemmas.{OpensSo, halved_on, opened_alike, 
 use Rattle.board_session.proofs.SettledLemmas.{placed_declares, placed_settled}
 
 -- a game without cycles is one that its position opens
-pub opens_so : {limits : Limits} {setup : Setup} {passes : Tally} {w : Whole} → OpensLess limits setup passes w → OpensSo limits.tax setup passes w
+pub opens_so : {limits : Limits} {setup : Setup} {passes : Tally} {w : Whole} → OpensLess limits setup passes w → OpensSo false setup passes w
 opens_so opens = record { start = opens.start; opening = opens.playable.opening; pay = opens.pay; less = opens.less }
 
 -- A move that puts no stone leads to a game of the same board, with the same regions.
 module _ {limits : Limits} {a : Position} {k : ℤ} {c : Colour} {w : Whole} (opens : OpensLess limits (setup_of a k c) a.passes w) where
-  goes_on : (b : Position) (l : ℤ) (d : Colour) (t : Whole) → b.board ≡ a.board → OpensSo limits.tax (setup_of b l d) b.passes t
+  goes_on : (b : Position) (l : ℤ) (d : Colour) (t : Whole) → b.board ≡ a.board → OpensSo false (setup_of b l d) b.passes t
       → OpensLess limits (setup_of b l d) b.passes t
   goes_on b l d t same so = record {
     settled = subst IsSettled (sym same) opens.settled;
@@ -75,7 +75,7 @@ chosen_wins w m (inr none) (suc n, wins) = absurd (none.0 wins.1.0 (wins.0, wins
 
 pub win_is_kept : WinIsKept
 win_is_kept limits s c m w (v, opens, chooses) opened (n, wins) =
-    let (same, alike) = opened_alike limits.tax _ _ v w (opens_so opens) (opens_so opened) in
+    let (same, alike) = opened_alike false _ _ v w (opens_so opens) (opens_so opened) in
     let back : with_marks v w.contested ≡ w = ap (λ z. with_marks z w.contested) same in
     let won = chosen_wins v m chooses (n, subst (WinsWithin Whole Leads n) (sym same) (wins_alike n w v.contested alike wins)) in
     subst (λ z. IsWinning z m) back (winning_alike v w.contested m (λ p. ((alike p).1, (alike p).0)) won)
@@ -91,7 +91,7 @@ sound_not_refused limits rs (Cycle p names back) name words sound (small, (k, lt
 sound_not_refused limits rs (Form p) name words sound (small, (k, lt, (lowest, few, none, large), before)) said = (sound (region_at rs k) (Contains-get_or rs k no_region lt)).forms large
 sound_not_refused limits rs (Memory e) name words sound refused said = said
 
-begun_refused : (limits : Limits) (setup : Setup) (fault : SolveError) (name : ℕ → List ℕ) (words : List ℕ) → Begun setup limits (Err fault) → AreFaultWords name limits fault words
+begun_refused : (limits : Limits) (setup : Setup) (fault : SolveError) (name : ℕ → List ℕ) (words : List ℕ) → Begun setup false limits (Err fault) → AreFaultWords name limits fault words
     → (regions : List Region) × AreRegionsOfPlay setup.board regions × AreRefused limits regions fault
 begun_refused limits setup (Points p n) name words begun said = begun
 begun_refused limits setup (Positions p) name words begun said = begun
@@ -109,13 +109,13 @@ opens_or_not limits setup passes w words opens (inr (settled, inl (fault, begun,
     sound_not_refused limits regions fault (vertex_text setup.board.columns setup.board.rows) words
     (subst (AreSound limits) (one_regions setup.board opens.playable.regions regions opens.playable.are_regions are) opens.playable.sound) refused said
 opens_or_not limits setup passes w words opens (inr (settled, inr (start, playable, not, is))) =
-    not (subst (PayFor passes) (opened_purses limits.tax setup opens.start start opens.playable.opening playable.opening) opens.pay)
+    not (subst (PayFor passes) (opened_purses false setup opens.start start opens.playable.opening playable.opening) opens.pay)
 
 -- a move is chosen, or there is none
 chosen_or_none : (limits : Limits) (setup : Setup) (passes : Tally) (v w : Whole) (m : Move) → OpensLess limits setup passes v → OpensLess limits setup passes w → Chooses v m
     → ¬ HasMove w → ⊥
 chosen_or_none limits setup passes v w m a b chooses none =
-    let (same, alike) = opened_alike limits.tax setup passes v w (opens_so a) (opens_so b) in
+    let (same, alike) = opened_alike false setup passes v w (opens_so a) (opens_so b) in
     let (t, move) = chosen_legal v m chooses in
     none (m, (with_marks t w.contested, move_back w t v.contested m alike (subst (λ z. IsMove z m t) same move)))
 

@@ -1,5 +1,5 @@
 -- Moves that a session generates can be made.
-use Rattle.std.proofs.Common.{◌≡◌, ◌≢◌, ◌*◌, ◌%◌, ℕ, ℤ, suc, pos, negsuc, nat_eq, cond, length, arith, inl, inr, refl, ap, ◌∙◌, subst}
+use Rattle.std.proofs.Common.{◌≡◌, ◌≢◌, ◌*◌, ◌%◌, ℕ, ℤ, suc, pos, negsuc, nat_eq, cond, length, arith, inl, inr, refl, ap, ◌∙◌, subst, false}
 use Rattle.std.proofs.lemmas.Int.{ints}
 use Rattle.std.proofs.lemmas.Bool.{cases_eq}
 use Rattle.go_grid.specs.Chain.{IsSettled}
@@ -15,7 +15,7 @@ use Rattle.whole_rules.specs.declared.states.Move.{Move}
 use Rattle.whole_rules.specs.declared.states.Move.TheVariants as move
 use Rattle.whole_rules.specs.Opening.{komi_token}
 use Rattle.whole_rules.specs.WholeGame.{IsLegal, Whole}
-use Rattle.endgame_solver.specs.declared.limits.Limits.{Limits}
+use Rattle.endgame_solver.specs.Limits.{Limits}
 use Rattle.endgame_solver.specs.Solved.{Chooses, IsPlayable}
 use Rattle.board_session.specs.declared.position.BoardMove.{BoardMove}
 use Rattle.board_session.specs.declared.position.BoardMove.TheVariants.{Stone, Pass, Half}
@@ -28,7 +28,7 @@ use Rattle.board_session.specs.Tallies.{Tally, grown}
 use Rattle.board_session.specs.inner.Generating.{IsAdviceOnBoard, IsTold, MayFollow, MayMake}
 
 -- what is told in a game that begins so is told in the position that opens it
-pub told_advises : (limits : Limits) (setup : Setup) (passes : Tally) (start : Whole) (a : Advice) → IsSettled setup.board → IsPlayable limits setup start
+pub told_advises : (limits : Limits) (setup : Setup) (passes : Tally) (start : Whole) (a : Advice) → IsSettled setup.board → IsPlayable limits false setup start
     → IsTold passes start a → Advises limits setup passes a
 told_advises limits setup passes start (chosen m) settled playable (pay, chooses) =
     (_, record { settled = settled; start = start; playable = playable; pay = pay; less = refl }, chooses)

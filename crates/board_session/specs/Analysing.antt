@@ -11,7 +11,7 @@ use Rattle.benson_life.specs.Life.{IsAlive, IsCounted}
 use Rattle.gtp_words.specs.Vertices.{vertex_text}
 use Rattle.go_play.specs.Setup.{Setup}
 use Rattle.whole_rules.specs.WholeGame.{Whole}
-use Rattle.endgame_solver.specs.declared.limits.Limits.{Limits}
+use Rattle.endgame_solver.specs.Limits.{Limits}
 use Rattle.endgame_solver.specs.Solved.{IsPlayable}
 use Rattle.report.specs.declared.score.Score.{Score}
 use Rattle.report.specs.declared.score.Score.TheVariants as points
@@ -96,7 +96,7 @@ none_found topic words = gameless words
 -- what is found on the topic of the game that the position opens, or why it opens none
 abbrev pub FindsIn : Limits → Topic → Setup → Finding → Type 0
 FindsIn limits topic setup finding = (IsSettled setup.board
-    × ((w : Whole) × (playable : IsPlayable limits setup w) × FindsOn topic playable.regions w setup.komi_halves finding))
+    × ((w : Whole) × (playable : IsPlayable limits false setup w) × FindsOn topic playable.regions w setup.komi_halves finding))
     ⊎ ((words : List ℕ) × OpensNone limits setup no_passes words × (finding ≡ none_found topic words))
 
 -- what is found on the topic of a state that opens with this komi, and in which kos can arise

@@ -5,7 +5,7 @@ use Rattle.go_grid.specs.declared.grid.Colour.{Colour}
 use Rattle.whole_rules.specs.declared.states.Move.{Move}
 use Rattle.whole_rules.specs.PlainRecursion.{MoverLoses, MoverWins}
 use Rattle.whole_rules.specs.WholeGame.{IsMove, Leads, Whole}
-use Rattle.endgame_solver.specs.declared.limits.Limits.{Limits}
+use Rattle.endgame_solver.specs.Limits.{Limits}
 use Rattle.board_session.specs.Cycles.{OpensWithCycles, TellsIn}
 use Rattle.board_session.specs.GeneratedLaws.{AreOneKind, PutsNone}
 use Rattle.board_session.specs.Generating.{Advice, MakesChosen, board_move, chosen, setup_of}

@@ -8,7 +8,7 @@ use Rattle.region_cut.specs.Cut.{AreRegionsOfPlay}
 use Rattle.go_play.specs.Setup.{Setup}
 use Rattle.whole_rules.specs.declared.states.Move.{Move}
 use Rattle.whole_rules.specs.WholeGame.{Whole}
-use Rattle.endgame_solver.specs.declared.limits.Limits.{Limits}
+use Rattle.endgame_solver.specs.Limits.{Limits}
 use Rattle.endgame_solver.specs.Solved.{HasMove, OpensAs}
 use Rattle.whole_budgets.specs.EnginePlay.{EngineMoves}
 use Rattle.cycle_solver.specs.CycleFaults.{AreSteadyWithin}
@@ -21,12 +21,12 @@ use Rattle.board_session.specs.Generating.{Advice, Advises, PayFor, after_passes
 use Rattle.board_session.specs.States.{BoardState, present}
 use Rattle.board_session.specs.Tallies.{Tally}
 
--- the regions of play of the position are all steady within the limits, and the state opens it
+-- the regions of play of the position are all steady within the limits, and the state opens it without a tax
 pub record IsSteadyOpening (limits : Limits) (setup : Setup) (start : Whole) : Type 0 where
   pub regions : List Region
   pub are_regions : AreRegionsOfPlay setup.board regions
   pub steady : AreSteadyWithin limits MOST_CAPTURES regions
-  pub opening : OpensAs setup limits.tax start
+  pub opening : OpensAs setup false start
 
 -- the game that the settled position opens where kos can arise, in which each pass has cost its colour a point
 pub record OpensWithCycles (limits : Limits) (setup : Setup) (passes : Tally) (w : Whole) : Type 0 where
@@ -54,7 +54,7 @@ abbrev pub OpensNoneWithCycles : Limits → Setup → Tally → List ℕ → Typ
 OpensNoneWithCycles limits setup passes words =
     ((p : ℕ) × IsFirstUnsettled setup.board p × (words ≡ unsettled_words setup.board p))
     ⊎ (IsSettled setup.board
-    × (((fault : CycleError) × BeginsPlay setup limits MOST_CAPTURES (Err fault)
+    × (((fault : CycleError) × BeginsPlay setup false limits MOST_CAPTURES (Err fault)
     × AreCycleFaultWords (vertex_text setup.board.columns setup.board.rows) limits fault words)
     ⊎ ((start : Whole) × IsSteadyOpening limits setup start × ¬ PayFor passes start.purses × (words ≡ codes "purse"))))
 

@@ -6,7 +6,7 @@ use Rattle.whole_rules.specs.declared.states.Move.{Move}
 use Rattle.whole_rules.specs.declared.states.Move.TheVariants.{Stone, Spend, Half}
 use Rattle.whole_rules.specs.PlainRecursion.{MoverLoses, MoverWins}
 use Rattle.whole_rules.specs.WholeGame.{IsMove, Leads, Whole}
-use Rattle.endgame_solver.specs.declared.limits.Limits.{Limits}
+use Rattle.endgame_solver.specs.Limits.{Limits}
 use Rattle.board_session.specs.declared.position.BoardMove.{BoardMove}
 use Rattle.board_session.specs.declared.position.Position.{Position}
 use Rattle.board_session.specs.Generating.{Advice, AdvisesIn, MakesChosen, OpensLess, board_move, chosen, resigned, setup_of, unopened}

@@ -1,5 +1,5 @@
 -- Moves that a session generates: the game that a position opens, and the engine's move in it.
-use Rattle.std.specs.Prelude.{◌≡◌, ◌⊎◌, ◌≤◌, ◌++◌, ℕ, ℤ, pos, ◌+ℤ◌, ◌-ℤ◌, List, codes, Err}
+use Rattle.std.specs.Prelude.{◌≡◌, ◌⊎◌, ◌≤◌, ◌++◌, ℕ, ℤ, pos, ◌+ℤ◌, ◌-ℤ◌, List, codes, Err, false}
 use Rattle.go_grid.specs.Board.{Board}
 use Rattle.go_grid.specs.Chain.{IsFirstUnsettled, IsSettled}
 use Rattle.go_grid.specs.declared.grid.Colour.{Colour}
@@ -12,7 +12,7 @@ use Rattle.whole_rules.specs.declared.states.Move.TheVariants as move
 use Rattle.whole_rules.specs.Purses.{taken_out}
 use Rattle.whole_rules.specs.WholeGame.{Whole}
 use Rattle.endgame_solver.specs.declared.faults.SolveError.{SolveError}
-use Rattle.endgame_solver.specs.declared.limits.Limits.{Limits}
+use Rattle.endgame_solver.specs.Limits.{Limits}
 use Rattle.endgame_solver.specs.Solved.{Begun, Chooses, HasMove, IsPlayable}
 use Rattle.fault_words.specs.FaultWords.{AreFaultWords}
 use Rattle.board_session.specs.declared.position.BoardMove.{BoardMove}
@@ -45,11 +45,11 @@ less_passes passes m = taken_out White passes.white (taken_out Black passes.blac
 abbrev pub after_passes : Tally → Whole → Whole
 after_passes passes start = record start { purses = less_passes passes start.purses }
 
--- the game that the settled position opens, in which each pass has cost its colour a point
+-- the game that the settled position opens without a tax, in which each pass has cost its colour a point
 pub record OpensLess (limits : Limits) (setup : Setup) (passes : Tally) (w : Whole) : Type 0 where
   pub settled : IsSettled setup.board
   pub start : Whole
-  pub playable : IsPlayable limits setup start
+  pub playable : IsPlayable limits false setup start
   pub pay : PayFor passes start.purses
   pub less : w ≡ after_passes passes start
 
@@ -63,8 +63,8 @@ abbrev pub OpensNone : Limits → Setup → Tally → List ℕ → Type 0
 OpensNone limits setup passes words =
     ((p : ℕ) × IsFirstUnsettled setup.board p × (words ≡ unsettled_words setup.board p))
     ⊎ (IsSettled setup.board
-    × (((fault : SolveError) × Begun setup limits (Err fault) × AreFaultWords (vertex_text setup.board.columns setup.board.rows) limits fault words)
-    ⊎ ((start : Whole) × IsPlayable limits setup start × ¬ PayFor passes start.purses × (words ≡ codes "purse"))))
+    × (((fault : SolveError) × Begun setup false limits (Err fault) × AreFaultWords (vertex_text setup.board.columns setup.board.rows) limits fault words)
+    ⊎ ((start : Whole) × IsPlayable limits false setup start × ¬ PayFor passes start.purses × (words ≡ codes "purse"))))
 
 -- what the colour to move is told: a move, or that there is none, or why the position opens no game
 pub data Advice : Type 0 where

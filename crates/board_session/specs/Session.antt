@@ -8,7 +8,7 @@ use Rattle.std.specs.Str.{IsUtf8}
 use Rattle.desk_io.specs.Files.{Files, told_file}
 use Rattle.sgf_go.specs.declared.settings.Settings.{Settings}
 use Rattle.go_play.specs.Setup.{Setup}
-use Rattle.endgame_solver.specs.declared.limits.Limits.{Limits}
+use Rattle.endgame_solver.specs.Limits.{Limits}
 use Rattle.gtp_words.specs.Files.{GivesNone, GivesSetup, load_settings}
 use Rattle.gtp_words.specs.Loads.{Fate}
 use Rattle.gtp_words.specs.Loads.Fate.{failed, made, no_load}
@@ -73,10 +73,6 @@ abbrev pub finding_said : Finding → Said
 finding_said (found text) = done text
 finding_said (gameless words) = unsolved words
 finding_said (scoreless words) = unscored words
-
--- the limits of a game, in which there is no tax
-abbrev pub game_limits : BoardLimits → Limits
-game_limits limits = record { positions = limits.positions; parts = limits.parts; tax = false }
 
 -- the engine's move, with cycles admitted or without, is said and made, if there is one
 abbrev pub Generates : Bool → Limits → Colour → BoardState → Said → BoardState → Type 0
@@ -176,9 +172,9 @@ TakesFile settings files file failed s said u = IsUtf8 file × RefusesWith Canno
 -- what an order does, by what becomes of its load
 abbrev pub Obeys : BoardLimits → Option Files → BoardOrder → Fate → BoardState → Said → BoardState → Type 0
 Obeys limits files (loadsgf file after) fate s said u = TakesFile (load_settings limits.territory after) files file fate s said u
-Obeys limits files (genmove c) fate s said u = (fate ≡ no_load) × Generates limits.cycles (game_limits limits) c s said u
-Obeys limits files (reg_genmove c) fate s said u = (fate ≡ no_load) × Suggests limits.cycles (game_limits limits) c s said × (u ≡ s)
-Obeys limits files (analyse x) fate s said u = (fate ≡ no_load) × Reports limits.cycles (game_limits limits) x s said × (u ≡ s)
+Obeys limits files (genmove c) fate s said u = (fate ≡ no_load) × Generates limits.cycles limits.game c s said u
+Obeys limits files (reg_genmove c) fate s said u = (fate ≡ no_load) × Suggests limits.cycles limits.game c s said × (u ≡ s)
+Obeys limits files (analyse x) fate s said u = (fate ≡ no_load) × Reports limits.cycles limits.game x s said × (u ≡ s)
 Obeys limits files order fate s said u = (fate ≡ no_load) × Does order s said u
 
 -- what is done on what the words ask for

@@ -9,7 +9,6 @@ use Rattle.board_session.specs.declared.limits.BoardLimits.{BoardLimits}
 use Rattle.board_session.specs.Orders.{Asked, Asks, BoardOrder}
 use Rattle.board_session.specs.Orders.Asked.{something}
 use Rattle.board_session.specs.Orders.BoardOrder.{analyse, genmove, reg_genmove}
-use Rattle.board_session.specs.Session.{game_limits}
 use Rattle.board_session.specs.States.{BoardState, present}
 
 -- the order asks the solver
@@ -26,7 +25,7 @@ AskToSolve asked = ⊥
 
 -- these are at most the steps to solve the board that stands: for its regions of play
 abbrev pub SolvesWithin : BoardLimits → BoardState → ℕ → ℕ → Type 0
-SolvesWithin limits s before now = (regions : List Region) → AreRegionsOfPlay (present s).board regions → now ≤ before + most_steps (game_limits limits) regions
+SolvesWithin limits s before now = (regions : List Region) → AreRegionsOfPlay (present s).board regions → now ≤ before + most_steps limits.game regions
 
 -- the steps of a line: none, or where it asks the solver those to solve the board
 abbrev pub AreLineSteps : BoardLimits → LineSteps BoardState

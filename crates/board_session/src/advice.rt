@@ -3,7 +3,6 @@
 ghost use Rattle.std.specs.Prelude.{◌≡◌, ◌≤◌, ◌<◌, ◌+◌, ◌↔◌, true, List, length, IfOk, string_bytes};
 ghost use Rattle.go_grid.specs.Region.{Region};
 ghost use Rattle.region_cut.specs.Cut.{AreRegionsOfPlay};
-ghost use Rattle.whole_rules.specs.Opening.{MayTax};
 ghost use Rattle.endgame_solver.specs.Faults.{most_steps};
 ghost use Rattle.board_session.specs.Cycles.{AdvisesWith};
 ghost use Rattle.board_session.specs.Generating.{Advises, PayFor, after_passes, board_move, unsettled_words};
@@ -15,7 +14,6 @@ use endgame_solver::{Limits, Solved};
 use fault_words::{Naming, fault_words};
 use go_grid::{Board, Colour, Point};
 use gtp_words::point_text;
-use local_graph::MOST_POSITIONS;
 use local_play::Steps;
 use sgf_go::Setup;
 use std::alloc::{AllocError, Global};
@@ -93,15 +91,13 @@ fn open<L: Ledger>(
     limits: &Limits,
     steps: &mut Steps<L>,
 ) -> Result<Advice, AllocError>
-    requires taxed { MayTax limits.now.tax setup.now.board }
-    requires positions { limits.now.positions ≤ MOST_POSITIONS }
     ensures advised { IfOk result (λ advice. Advises limits.now setup.now passes
         (advice_of advice)) }
     ensures steps { (regions : List Region) → AreRegionsOfPlay setup.now.board regions
         → steps.new ≤ steps.old + most_steps limits.now regions }
 {
     let size = setup.board().size();
-    match Solved::begin(alloc, setup, limits, steps) {
+    match Solved::begin(alloc, setup, false, limits, steps) {
         Ok(mut game) => {
             let advice = tell(alloc, &mut game, passes);
             drop(game);
@@ -123,8 +119,6 @@ pub(crate) fn advise<L: Ledger>(
     cycles: bool,
     steps: &mut Steps<L>,
 ) -> Result<Advice, AllocError>
-    requires taxed { MayTax limits.now.tax setup.now.board }
-    requires positions { limits.now.positions ≤ MOST_POSITIONS }
     ensures advised { IfOk result (λ advice. AdvisesWith cycles limits.now setup.now passes
         (advice_of advice)) }
     ensures steps { (regions : List Region) → AreRegionsOfPlay setup.now.board regions

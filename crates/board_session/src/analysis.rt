@@ -26,7 +26,6 @@ use fault_words::{Naming, fault_words};
 use go_grid::{Colour, Point, Size};
 use gtp_words::point_text;
 use item_list::ItemList;
-use local_graph::MOST_POSITIONS;
 use local_play::Steps;
 use report::{Score, line_text, margin_text, moves_text, score_of, top_stones_text};
 use sgf_go::Setup;
@@ -225,14 +224,12 @@ fn reply_in<L: Ledger>(
     limits: &Limits,
     steps: &mut Steps<L>,
 ) -> Result<ItemList<u8>, AllocError>
-    requires untaxed { limits.now.tax ≡ false }
-    requires positions { limits.now.positions ≤ MOST_POSITIONS }
     ensures replied { IfOk result (RepliesIn limits.now topic setup.now id.now) }
     ensures steps { (regions : List Region) → AreRegionsOfPlay setup.now.board regions
         → steps.new ≤ steps.old + most_steps limits.now regions }
 {
     let size = setup.board().size();
-    match Solved::begin(alloc, setup, limits, steps) {
+    match Solved::begin(alloc, setup, false, limits, steps) {
         Ok(mut game) => {
             let reply = reply_on(alloc, id, topic, &mut game, setup.komi_halves());
             drop(game);
@@ -255,8 +252,6 @@ fn reply_by<L: Ledger>(
     cycles: bool,
     steps: &mut Steps<L>,
 ) -> Result<ItemList<u8>, AllocError>
-    requires untaxed { limits.now.tax ≡ false }
-    requires positions { limits.now.positions ≤ MOST_POSITIONS }
     ensures replied { IfOk result (RepliesBy (cycle_topic cycles topic) limits.now topic
         setup.now id.now) }
     ensures steps { (regions : List Region) → AreRegionsOfPlay setup.now.board regions
@@ -299,8 +294,6 @@ impl BoardSession {
         steps: &mut Steps<L>,
     ) -> Result<ItemList<u8>, AllocError>
         requires few { length self.now.moves < MOST_LINES }
-        requires untaxed { limits.now.tax ≡ false }
-        requires positions { limits.now.positions ≤ MOST_POSITIONS }
         ensures reported { IfOk result (IsReported cycles limits.now analysis id.now
             self.now) }
         ensures steps { (regions : List Region)

@@ -4,7 +4,6 @@ ghost use Rattle.std.specs.Prelude.{◌≡◌, ◌≤◌, ◌<◌, ◌+◌, ◌*
 ghost use Rattle.go_grid.specs.Region.{Region};
 ghost use Rattle.gtp_words.specs.Vertices.{vertex_text};
 ghost use Rattle.region_cut.specs.Cut.{AreRegionsOfPlay};
-ghost use Rattle.whole_rules.specs.Opening.{MayTax};
 ghost use Rattle.endgame_solver.specs.Faults.{most_steps};
 ghost use Rattle.engine_player.specs.Played.{KeepsNothing};
 ghost use Rattle.board_session.specs.Cycles.{AdvisesWithCycles, AreCycleFaultWords, captures_words};
@@ -20,7 +19,6 @@ use engine_player::{CyclePlayer, MOST_CAPTURES};
 use fault_words::{Naming, form_words, points_words, positions_words};
 use go_grid::{Colour, Point, Size};
 use gtp_words::point_text;
-use local_graph::MOST_POSITIONS;
 use local_play::Steps;
 use sgf_go::Setup;
 use std::alloc::{AllocError, Global};
@@ -53,7 +51,7 @@ pub(crate) fn words_of(
             points_words(alloc, Naming::Gtp, size, lowest, points)
         }
         CycleError::Positions(lowest) => {
-            positions_words(alloc, Naming::Gtp, size, lowest, limits.positions)
+            positions_words(alloc, Naming::Gtp, size, lowest, limits.positions())
         }
         CycleError::Form(lowest) => form_words(alloc, Naming::Gtp, size, lowest),
         CycleError::Captures(lowest) => captures_words(alloc, size, lowest),
@@ -94,15 +92,13 @@ pub(crate) fn open_with_cycles<L: Ledger>(
     limits: &Limits,
     steps: &mut Steps<L>,
 ) -> Result<Advice, AllocError>
-    requires taxed { MayTax limits.now.tax setup.now.board }
-    requires positions { limits.now.positions ≤ MOST_POSITIONS }
     ensures advised { IfOk result (λ advice. AdvisesWithCycles limits.now setup.now passes
         (advice_of advice)) }
     ensures steps { (regions : List Region) → AreRegionsOfPlay setup.now.board regions
         → steps.new ≤ steps.old + most_steps limits.now regions }
 {
     let size = setup.board().size();
-    match CyclePlayer::begin(alloc, setup, limits, MOST_CAPTURES, steps) {
+    match CyclePlayer::begin(alloc, setup, false, limits, MOST_CAPTURES, steps) {
         Ok(mut game) => {
             let advice = tell(alloc, &mut game, passes);
             drop(game);

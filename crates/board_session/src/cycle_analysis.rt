@@ -1,6 +1,6 @@
 //! Analyses of the present position where kos can arise.
 
-ghost use Rattle.std.specs.Prelude.{◌≡◌, ◌≤◌, ◌+◌, List, false, IfOk};
+ghost use Rattle.std.specs.Prelude.{◌≤◌, ◌+◌, List, IfOk};
 ghost use Rattle.go_grid.specs.Region.{Region};
 ghost use Rattle.region_cut.specs.Cut.{AreRegionsOfPlay};
 ghost use Rattle.endgame_solver.specs.Faults.{most_steps};
@@ -16,7 +16,6 @@ use endgame_solver::Limits;
 use engine_player::MOST_CAPTURES;
 use fault_words::Naming;
 use item_list::ItemList;
-use local_graph::MOST_POSITIONS;
 use local_play::Steps;
 use report::{cycle_margin_text, cycle_moves_text};
 use sgf_go::Setup;
@@ -76,14 +75,12 @@ pub(crate) fn reply_with_cycles<L: Ledger>(
     limits: &Limits,
     steps: &mut Steps<L>,
 ) -> Result<ItemList<u8>, AllocError>
-    requires untaxed { limits.now.tax ≡ false }
-    requires positions { limits.now.positions ≤ MOST_POSITIONS }
     ensures replied { IfOk result (RepliesInWithCycles limits.now topic setup.now id.now) }
     ensures steps { (regions : List Region) → AreRegionsOfPlay setup.now.board regions
         → steps.new ≤ steps.old + most_steps limits.now regions }
 {
     let size = setup.board().size();
-    match CycleGame::begin(alloc, setup, limits, MOST_CAPTURES, steps) {
+    match CycleGame::begin(alloc, setup, false, limits, MOST_CAPTURES, steps) {
         Ok(mut game) => {
             let reply = reply_on(alloc, id, topic, &mut game, setup.komi_halves());
             drop(game);

@@ -22,7 +22,6 @@ use board_words::colour_word;
 use desk_io::Shelf;
 use gtp_words::{Answer, Loading, Loads, MOST_LOADS, clean, load, split, take_id};
 use item_list::ItemList;
-use local_graph::MOST_POSITIONS;
 use local_play::Steps;
 use sgf_go::Setup;
 use std::alloc::{AllocError, Global};
@@ -39,15 +38,11 @@ pub struct BoardEngine {
 }
 
 impl Model for BoardEngine {
-    ghost use Rattle.std.specs.Prelude.{◌≤◌};
-    ghost use Rattle.local_graph.specs.declared.graph.TheConstants.{MOST_POSITIONS};
     ghost use Rattle.board_session.specs.Written.{BoardEngine};
 
     ghost Value = { BoardEngine };
 
     ghost view = { λ e. record { limits = e.limits; state = e.session; loads = e.loads } };
-
-    ghost invariant = { λ e. e.limits.positions ≤ MOST_POSITIONS };
 }
 
 /// Whether a request ends the session.
@@ -60,7 +55,6 @@ fn is_quit(request: &Request<'_, '_>) -> bool
 impl BoardEngine {
     /// An engine with an empty board of 19 by 19 and no komi.
     pub fn new(alloc: Global, limits: BoardLimits) -> Result<BoardEngine, AllocError>
-        requires positions { limits.positions ≤ MOST_POSITIONS }
         ensures { IfOk result (λ engine. engine ≡ unused limits) }
     {
         Ok(BoardEngine {
@@ -168,19 +162,16 @@ impl BoardEngine {
         match request {
             Request::LoadSgf(file, after) => self.load_file(id, file, after, shelf),
             Request::GenMove(colour) => {
-                let limits = self.limits.of_game();
                 self.session
-                    .generate(id, colour, &limits, self.limits.cycles, steps)
+                    .generate(id, colour, &self.limits.game, self.limits.cycles, steps)
             }
             Request::RegGenMove(colour) => {
-                let limits = self.limits.of_game();
                 self.session
-                    .suggest(id, colour, &limits, self.limits.cycles, steps)
+                    .suggest(id, colour, &self.limits.game, self.limits.cycles, steps)
             }
             Request::Analyse(analysis) => {
-                let limits = self.limits.of_game();
                 self.session
-                    .report(id, analysis, &limits, self.limits.cycles, steps)
+                    .report(id, analysis, &self.limits.game, self.limits.cycles, steps)
             }
             plain => self.session.obey(id, plain),
         }

@@ -1,6 +1,6 @@
 //! Moves that the session generates.
 
-ghost use Rattle.std.specs.Prelude.{◌≡◌, ◌≤◌, ◌<◌, ◌+◌, List, false, length, IfOk, OnOk, OnErr};
+ghost use Rattle.std.specs.Prelude.{◌≡◌, ◌≤◌, ◌<◌, ◌+◌, List, length, IfOk, OnOk, OnErr};
 ghost use Rattle.desk_io.specs.declared.lines.TheConstants.{MOST_LINES};
 ghost use Rattle.go_grid.specs.Region.{Region};
 ghost use Rattle.region_cut.specs.Cut.{AreRegionsOfPlay};
@@ -23,7 +23,6 @@ use crate::texts::move_text;
 use endgame_solver::Limits;
 use go_grid::{Colour, Size};
 use item_list::ItemList;
-use local_graph::MOST_POSITIONS;
 use local_play::Steps;
 use std::alloc::{AllocError, Global};
 use std::sync::ledger::Ledger;
@@ -93,8 +92,6 @@ impl BoardSession {
         steps: &mut Steps<L>,
     ) -> Result<Advice, AllocError>
         requires few { length self.now.moves < MOST_LINES }
-        requires untaxed { limits.now.tax ≡ false }
-        requires positions { limits.now.positions ≤ MOST_POSITIONS }
         ensures advised { IfOk result (λ advice. TellsIn cycles limits.now self.now colour
             (advice_of advice)) }
         ensures may { IfOk result (λ advice. MayFollow colour (advice_of advice) self.now) }
@@ -154,8 +151,6 @@ impl BoardSession {
         steps: &mut Steps<L>,
     ) -> Result<ItemList<u8>, AllocError>
         requires few { length self.old.moves < MOST_LINES }
-        requires untaxed { limits.now.tax ≡ false }
-        requires positions { limits.now.positions ≤ MOST_POSITIONS }
         ensures generated { IfOk result
             (λ reply. IsGenerated cycles limits.now colour id.now self.old reply self.new) }
         ensures same { OnErr result (self.new ≡ self.old) }
@@ -180,8 +175,6 @@ impl BoardSession {
         steps: &mut Steps<L>,
     ) -> Result<ItemList<u8>, AllocError>
         requires few { length self.now.moves < MOST_LINES }
-        requires untaxed { limits.now.tax ≡ false }
-        requires positions { limits.now.positions ≤ MOST_POSITIONS }
         ensures suggested { IfOk result
             (λ reply. IsSuggested cycles limits.now colour id.now self.now reply) }
         ensures steps { (regions : List Region)

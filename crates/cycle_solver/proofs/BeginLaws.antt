@@ -17,7 +17,7 @@ use Rattle.local_value.specs.BudgetValues.{plain_graph}
 use Rattle.local_value.specs.Values.{IsPlaceOf}
 use Rattle.short_games.specs.Tree.{Tree}
 use Rattle.endgame_solver.specs.Regions.{no_region, region_at}
-use Rattle.endgame_solver.specs.declared.limits.Limits.{Limits}
+use Rattle.endgame_solver.specs.Limits.{Limits}
 use Rattle.endgame_solver.specs.Solved.{OpensAs}
 use Rattle.endgame_solver.proofs.BeginLaws.{purse_few}
 use Rattle.go_play.specs.Setup.{IsFit, Setup}
@@ -70,11 +70,11 @@ module _ {limits : Limits} {most : ℕ} {regions : List Region} {games : List Re
     held_start small = record { board = g; solved = solved; at = at_start; modest = small }
 
 -- a refusal of the regions is one of the position, whatever list of its regions is meant
-pub refusal_begun : (setup : Setup) (limits : Limits) (most : ℕ) {regions lent : List Region} → AreRegionsOfPlay setup.board regions
-    → lent ≡ regions → (e : CycleError) → AreRefused limits most lent e → Begun setup limits most (Err e)
-refusal_begun setup limits most {regions} are is e h = at e (subst (λ rs. AreRefused limits most rs e) is h)
+pub refusal_begun : (setup : Setup) (tax : Bool) (limits : Limits) (most : ℕ) {regions lent : List Region} → AreRegionsOfPlay setup.board regions
+    → lent ≡ regions → (e : CycleError) → AreRefused limits most lent e → Begun setup tax limits most (Err e)
+refusal_begun setup tax limits most {regions} are is e h = at e (subst (λ rs. AreRefused limits most rs e) is h)
   where
-    at : (e : CycleError) → AreRefused limits most regions e → Begun setup limits most (Err e)
+    at : (e : CycleError) → AreRefused limits most regions e → Begun setup tax limits most (Err e)
     at (Points p n) h = (regions, are, h)
     at (Positions p) h = (regions, are, h)
     at (Form p) h = (regions, are, h)

@@ -6,7 +6,7 @@ use Rattle.local_graph.specs.declared.graph.TheConstants.{MOST_POSITIONS}
 use Rattle.local_graph.specs.ReturnGraph.{ReturnGraph}
 use Rattle.region_cut.specs.Cut.{lowest}
 use Rattle.short_games.specs.Tree.{Tree}
-use Rattle.endgame_solver.specs.declared.limits.Limits.{Limits}
+use Rattle.endgame_solver.specs.Limits.{Limits}
 use Rattle.cycle_solver.specs.declared.faults.CycleError.{CycleError}
 use Rattle.cycle_solver.specs.declared.faults.CycleError.TheVariants.{Captures}
 use Rattle.cycle_solver.specs.declared.region_game.BothValues.{BothValues}

@@ -13,7 +13,7 @@ use Rattle.local_value.specs.BudgetValues.{AreWithinLimits, IsBudgetValueAt, IsR
 use Rattle.local_value.specs.Steady.{IsBudgetValue, IsSteady}
 use Rattle.local_value.proofs.BudgetTreeLaws.{budget_tree, budgets-need_cycles, enough}
 use Rattle.local_value.proofs.TreeLaws.{trees-exist}
-use Rattle.endgame_solver.specs.declared.limits.Limits.{Limits}
+use Rattle.endgame_solver.specs.Limits.{Limits}
 use Rattle.cycle_solver.specs.Games.{MayBeSteady}
 
 -- the value of a colour is one of the other

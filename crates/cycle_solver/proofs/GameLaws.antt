@@ -21,7 +21,7 @@ use Rattle.local_value.proofs.SteadyLaws.{layers-serve}
 use Rattle.endgame_solver.specs.ModestGames.{most_value}
 use Rattle.endgame_solver.specs.Regions.{region_at}
 use Rattle.endgame_solver.specs.Faults.{AreSmallRegions}
-use Rattle.endgame_solver.specs.declared.limits.Limits.{Limits}
+use Rattle.endgame_solver.specs.Limits.{Limits}
 use Rattle.cycle_solver.specs.CycleFaults.{AreRefused, HasLargeForm, HasLargeNeeded, IsFaultOf}
 use Rattle.cycle_solver.specs.declared.faults.CycleError.{CycleError}
 use Rattle.cycle_solver.specs.declared.faults.CycleError.TheVariants.{Captures, Form, Memory, Points, Positions}

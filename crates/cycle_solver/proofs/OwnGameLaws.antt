@@ -20,7 +20,7 @@ use Rattle.local_value.specs.Steady.{IsBudgetValue, IsSteady}
 use Rattle.local_value.specs.Values.{IsPlaceOf}
 use Rattle.local_value.proofs.MoveLaws.{graph_position}
 use Rattle.region_book.specs.Shape.{colour_after}
-use Rattle.endgame_solver.specs.declared.limits.Limits.{Limits}
+use Rattle.endgame_solver.specs.Limits.{Limits}
 use Rattle.endgame_solver.specs.inner.Sharing.{AreNegatives, IsTurnedValue}
 use Rattle.endgame_solver.proofs.CarriedLaws.{Matched}
 use Rattle.endgame_solver.proofs.GraphLaws.{positions_few}

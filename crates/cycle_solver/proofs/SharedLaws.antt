@@ -21,7 +21,7 @@ use Rattle.local_graph.specs.declared.graph.Edge.{Edge}
 use Rattle.local_graph.specs.inner.Graph.{edges_at}
 use Rattle.endgame_solver.specs.Regions.{IsStoneAt, region_at}
 use Rattle.endgame_solver.specs.ShapeValues.{AreLinked}
-use Rattle.endgame_solver.specs.declared.limits.Limits.{Limits}
+use Rattle.endgame_solver.specs.Limits.{Limits}
 use Rattle.endgame_solver.specs.inner.Sharing.{AreNegatives}
 use Rattle.endgame_solver.proofs.CarriedLaws.{Matched, link_in}
 use Rattle.cycle_solver.specs.declared.book.Book.{Book}

@@ -1,5 +1,5 @@
 -- The game that a position opens where kos can arise, or why there is none.
-use Rattle.std.specs.Prelude.{ℕ, ◌≡◌, ◌<◌, List, length, Result, Ok, Err}
+use Rattle.std.specs.Prelude.{ℕ, Bool, ◌≡◌, ◌<◌, List, length, Result, Ok, Err}
 use Rattle.go_grid.specs.declared.grid.Colour.{Colour}
 use Rattle.go_grid.specs.declared.grid.Colour.TheVariants.{Black, White}
 use Rattle.go_play.specs.Setup.{Setup}
@@ -8,18 +8,19 @@ use Rattle.region_cut.specs.Cut.{AreRegionsOfPlay, lowest}
 use Rattle.short_games.specs.Tree.{Tree, tree_at}
 use Rattle.local_value.specs.Steady.{IsBudgetValue, IsLeastSteady}
 use Rattle.endgame_solver.specs.Solved.{IsNumberOfPositions, OpensAs, Solved}
-use Rattle.endgame_solver.specs.declared.limits.Limits.{Limits}
+use Rattle.endgame_solver.specs.Limits.{Limits}
 use Rattle.cycle_solver.specs.declared.cycle_game.CycleReport.{CycleReport}
 use Rattle.cycle_solver.specs.CycleFaults.{AreRefused, AreSteadyWithin}
 use Rattle.cycle_solver.specs.declared.faults.CycleError.{CycleError}
 use Rattle.cycle_solver.specs.declared.faults.CycleError.TheVariants.{Memory}
 
--- the game that the position opens, all of whose regions are steady within the limits, or why there is none
-abbrev pub Begun : Setup → Limits → ℕ → Result Solved CycleError → Type 0
-Begun setup limits most (Ok game) = OpensAs setup limits.tax game.state × AreRegionsOfPlay setup.board game.regions
+-- the game that the position opens, with or without a tax, all of whose regions are steady within the limits, or why there is
+-- none
+abbrev pub Begun : Setup → Bool → Limits → ℕ → Result Solved CycleError → Type 0
+Begun setup tax limits most (Ok game) = OpensAs setup tax game.state × AreRegionsOfPlay setup.board game.regions
     × AreSteadyWithin limits most game.regions
-Begun setup limits most (Err (Memory e)) = Unit {0}
-Begun setup limits most (Err fault) = (regions : List Region) × AreRegionsOfPlay setup.board regions × AreRefused limits most regions fault
+Begun setup tax limits most (Err (Memory e)) = Unit {0}
+Begun setup tax limits most (Err fault) = (regions : List Region) × AreRegionsOfPlay setup.board regions × AreRefused limits most regions fault
 
 -- the id is that of the colour's value of the opening, with the least budget at which the region is steady for it
 abbrev pub IsSteadyId : List Tree → Region → Colour → ℕ → Type 0

@@ -12,7 +12,7 @@ use Rattle.local_value.specs.BudgetValues.{IsNeeded}
 use Rattle.local_value.specs.Steady.{IsBudgetValue, IsLeastSteady}
 use Rattle.endgame_solver.specs.Faults.{AreSmallRegions, IsFirstLarge}
 use Rattle.endgame_solver.specs.Regions.{region_at}
-use Rattle.endgame_solver.specs.declared.limits.Limits.{Limits}
+use Rattle.endgame_solver.specs.Limits.{Limits}
 use Rattle.cycle_solver.specs.declared.faults.CycleError.{CycleError}
 use Rattle.cycle_solver.specs.declared.faults.CycleError.TheVariants.{Points, Positions, Form, Captures, Memory}
 

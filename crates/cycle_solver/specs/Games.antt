@@ -7,7 +7,7 @@ use Rattle.local_graph.specs.ReturnGraph.{ReturnGraph}
 use Rattle.short_games.specs.Tree.{Tree}
 use Rattle.local_value.specs.BudgetValues.{AreSteadyLayers, AreWithinLimits, IsNeeded, IsReturnGraphOf}
 use Rattle.endgame_solver.specs.Regions.{region_at}
-use Rattle.endgame_solver.specs.declared.limits.Limits.{Limits}
+use Rattle.endgame_solver.specs.Limits.{Limits}
 use Rattle.cycle_solver.specs.CycleFaults.{IsFaultOf, IsSteadyWithin}
 use Rattle.cycle_solver.specs.declared.faults.CycleError.{CycleError}
 use Rattle.cycle_solver.specs.declared.faults.CycleError.TheVariants.{Memory}

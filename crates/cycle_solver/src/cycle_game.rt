@@ -2,7 +2,6 @@
 
 ghost use Rattle.std.specs.Prelude.{◌≡◌, ◌+◌, ◌<◌, ◌≤◌, ◌↔◌, List, [], ◌∷◌, MatchOption, None, length};
 ghost use Rattle.go_grid.specs.Region.{Region};
-ghost use Rattle.local_graph.specs.declared.graph.TheConstants.{MOST_POSITIONS};
 ghost use Rattle.region_cut.specs.Cut.{AreRegionsOfPlay};
 ghost use Rattle.whole_rules.specs.Opening.{MayTax};
 ghost use Rattle.endgame_solver.specs.Faults.{most_steps};
@@ -26,7 +25,6 @@ use crate::winning_moves::{first_winning_move, winner_after};
 use endgame_solver::{Limits, opening_of};
 use game_store::{GameId, Store};
 use go_grid::{Colour, Point, Region};
-use local_graph::MOST_POSITIONS;
 use local_play::Steps;
 use sgf_go::Setup;
 use std::alloc::Global;
@@ -89,24 +87,24 @@ impl Model for CycleGame {
 }
 
 impl CycleGame {
-    /// The game that a position opens, with a tax where the limits say it, for which nothing may be declared: its regions,
+    /// The game that a position opens, with or without a tax, for which nothing may be declared: its regions,
     /// each with its graph and the values of all its positions. Or the first region of more than 32 points; or else the first
     /// with too many positions, a value without a form, or more than `most` captures that return before it is steady. It takes
     /// at most one step for each position of each region.
     pub fn begin<L: Ledger>(
         alloc: Global,
         setup: &Setup,
+        tax: bool,
         limits: &Limits,
         most: u8,
         steps: &mut Steps<L>,
     ) -> Result<CycleGame, CycleError>
-        requires taxed { MayTax limits.now.tax setup.now.board }
-        requires positions { limits.now.positions ≤ MOST_POSITIONS }
-        ensures begun { Begun setup.now limits.now most result }
+        requires taxed { MayTax tax setup.now.board }
+        ensures begun { Begun setup.now tax limits.now most result }
         ensures steps { (regions : List Region) → AreRegionsOfPlay setup.now.board regions
             → steps.new ≤ steps.old + most_steps limits.now regions }
     {
-        let opening = opening_of(alloc, setup, limits.tax)?;
+        let opening = opening_of(alloc, setup, tax)?;
         let found = solve_openings(alloc, &opening.regions, limits, most, steps)?;
         let known = found.known;
         let start = found.start;

@@ -15,7 +15,7 @@ use endgame_solver::Limits;
 use game_canon::FormError;
 use game_store::Store;
 use go_grid::{Colour, Point, Region};
-use local_graph::{GraphError, MOST_POSITIONS, ReturnGraph, build_with_returns};
+use local_graph::{GraphError, ReturnGraph, build_with_returns};
 use local_play::Steps;
 use local_value::{BudgetError, SteadyValues, ValueMemo, value_steady_with};
 use std::alloc::Global;
@@ -55,7 +55,7 @@ fn graph_of<L: Ledger>(
         (3 ^ length region.now.points) }
 {
     let lowest = region.points[0];
-    match build_with_returns(alloc, region, limits.positions, steps) {
+    match build_with_returns(alloc, region, limits.positions(), steps) {
         Ok(graph) => Ok(graph),
         Err(GraphError::Points(points)) => Err(CycleError::Points(lowest, points)),
         Err(GraphError::Positions) => Err(CycleError::Positions(lowest)),
@@ -77,8 +77,11 @@ fn values_of(
 ) -> Result<Option<SteadyValues>, CycleError>
     requires points { length region.now.points ≤ 32 }
     requires graph { IsGraphWithin limits.now.positions region.now graph.now }
+<<<<<<< HEAD
     requires limit { limits.now.positions ≤ MOST_POSITIONS }
     requires memo { IsRememberedRight store.old limits.now.parts memo.old }
+=======
+>>>>>>> fbd018080e37b390ea77f1951d302914fd9ac7af
     ensures values { IfOk result
         (λ x. MayBeSteady limits.now most region.now graph.now colour store.new x) }
     ensures refusal { IfErr result (λ e. IsRefusalOf limits.now most region.now e) }
@@ -86,7 +89,11 @@ fn values_of(
     ensures kept { Extends store.old store.new }
 {
     let lowest = region.points[0];
+<<<<<<< HEAD
     match value_steady_with(alloc, graph, colour, store, memo, most, limits.parts) {
+=======
+    match value_steady(alloc, graph, colour, store, most, limits.parts()) {
+>>>>>>> fbd018080e37b390ea77f1951d302914fd9ac7af
         Ok(values) => Ok(Some(values)),
         Err(BudgetError::Captures) => Ok(None),
         Err(BudgetError::Form(FormError::Parts)) => Err(CycleError::Form(lowest)),
@@ -201,16 +208,31 @@ fn values_of_region(
 ) -> Result<BothValues, CycleError>
     requires points { length region.now.points ≤ 32 }
     requires graph { IsGraphWithin limits.now.positions region.now graph.now }
-    requires limit { limits.now.positions ≤ MOST_POSITIONS }
     ensures solved { IfOk result (λ both. IsSolvedBy limits.now most region.now store.new
         (record { graph = graph.now; black = both.black; white = both.white })) }
     ensures refusal { IfErr result (λ e. IsRefusalOf limits.now most region.now e) }
     ensures kept { Extends store.old store.new }
 {
+<<<<<<< HEAD
     let mut memo = ValueMemo::new(alloc);
     let both = values_of_both(alloc, region, graph, limits, most, store, &mut memo);
     drop(memo);
     both
+=======
+    let lowest = region.points[0];
+    let _most = limits.positions();
+    let black = values_of(alloc, region, graph, Colour::Black, limits, most, store)?;
+    if !graph.has_cycle() {
+        return alone(black, lowest);
+    }
+    match values_of(alloc, region, graph, Colour::White, limits, most, store) {
+        Ok(white) => together(black, white, lowest),
+        Err(fault) => {
+            drop(black);
+            Err(fault)
+        }
+    }
+>>>>>>> fbd018080e37b390ea77f1951d302914fd9ac7af
 }
 
 /// The graph and the values of a region.
@@ -223,7 +245,6 @@ pub(crate) fn region_game<L: Ledger>(
     steps: &mut Steps<L>,
 ) -> Result<RegionGame, CycleError>
     requires points { length region.now.points ≤ 32 }
-    requires limit { limits.now.positions ≤ MOST_POSITIONS }
     ensures solved { IfOk result (λ game. IsSolvedBy limits.now most region.now store.new game) }
     ensures refusal { IfErr result (λ e. IsRefusalOf limits.now most region.now e) }
     ensures kept { Extends store.old store.new }

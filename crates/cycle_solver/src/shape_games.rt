@@ -19,7 +19,6 @@ use crate::shared_games::RegionGames;
 use endgame_solver::Limits;
 use game_store::Store;
 use go_grid::Region;
-use local_graph::MOST_POSITIONS;
 use local_play::Steps;
 use std::alloc::Global;
 use std::sync::ledger::Ledger;
@@ -37,7 +36,6 @@ fn game_of_shape<L: Ledger>(
     steps: &mut Steps<L>,
 ) -> Result<usize, CycleError>
     requires points { length region.now.points ≤ 32 }
-    requires limit { limits.now.positions ≤ MOST_POSITIONS }
     requires shape { IsShape region.now region.now.cells kind.shape.spots.items kind.turn }
     requires kinds { AreKinds limits.now most games.old.items kinds.old.items store.old }
     ensures kinds { OnOk result
@@ -75,7 +73,6 @@ fn add_game<L: Ledger>(
 ) -> Result<(), CycleError>
     requires number { number < length regions.now }
     requires points { length (region_at regions.now number).points ≤ 32 }
-    requires limit { limits.now.positions ≤ MOST_POSITIONS }
     requires shares { SharesBelow limits.now most regions.now book.old kinds.old.items store.old
         number }
     ensures shares { OnOk result (SharesBelow limits.now most regions.now book.new kinds.new.items
@@ -116,7 +113,6 @@ pub fn region_games<L: Ledger>(
     steps: &mut Steps<L>,
 ) -> Result<RegionGames, CycleError>
     requires small { AreSmallRegions regions.now }
-    requires limit { limits.now.positions ≤ MOST_POSITIONS }
     ensures solved { IfOk result (λ games. AreSolvedBelow limits.now most regions.now games
         store.new (length regions.now)) }
     ensures refusal { IfErr result (λ e. AreRefused limits.now most regions.now e) }

@@ -16,7 +16,6 @@ use crate::shared_games::RegionGames;
 use endgame_solver::{Known, Limits, first_known, first_large};
 use game_store::Store;
 use go_grid::Region;
-use local_graph::MOST_POSITIONS;
 use local_play::Steps;
 use std::alloc::Global;
 use std::sync::ledger::Ledger;
@@ -46,7 +45,6 @@ fn hold_regions<L: Ledger>(
     steps: &mut Steps<L>,
 ) -> Result<Held, CycleError>
     requires small { AreSmallRegions regions.now }
-    requires limit { limits.now.positions ≤ MOST_POSITIONS }
     ensures solved { IfOk result (λ x. AreSolvedBelow limits.now most regions.now x.games
         store.new (length regions.now)) }
     ensures places { IfOk result (λ x. x.start.places.items ≡ replicate (length x.games) 0) }
@@ -71,7 +69,6 @@ pub(crate) fn solve_openings<L: Ledger>(
     most: u8,
     steps: &mut Steps<L>,
 ) -> Result<SolvedRegions, CycleError>
-    requires { limits.now.positions ≤ MOST_POSITIONS }
     ensures solved { IfOk result (λ x. AreSolvedBelow limits.now most regions.now x.games
         x.known.store (length regions.now)) }
     ensures fits { IfOk result (λ x. Fits x.known.store x.known.search) }

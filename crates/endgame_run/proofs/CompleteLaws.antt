@@ -20,12 +20,12 @@ use Rattle.endgame_run.specs.Complete.{HasManyCommands, HasManyLines, IsAnswerab
 use Rattle.endgame_run.specs.Engine.{IsEnginePlay, session_rules}
 use Rattle.endgame_run.specs.File.{count_of, told_of}
 use Rattle.endgame_run.specs.Game.{IsPlayedGame, question_of_game}
-use Rattle.endgame_run.specs.Limits.{limits_of}
+use Rattle.endgame_run.specs.Limits.{terms_of}
 use Rattle.endgame_run.specs.Question.{IsAnswer, IsFileAnswer, IsPositionAnswer}
 use Rattle.endgame_run.specs.Run.{RunsTask}
 use Rattle.endgame_run.specs.Trial.{IsTrialAnswer}
 use Rattle.endgame_run.specs.Written.{Reports}
-use Rattle.endgame_solver.specs.declared.limits.Limits.{Limits}
+use Rattle.endgame_run.specs.declared.terms.GameTerms.{GameTerms}
 use Rattle.gd_words.specs.declared.job.Question.{Question}
 use Rattle.gd_words.specs.declared.job.Question.TheVariants as question
 use Rattle.endgame_run.specs.declared.status.Status.{Status}
@@ -43,28 +43,28 @@ count_stays word a b calm = go (bytes_eq word (codes "-")) where
   go true = calm.reads
   go false = calm.loads
 
-within_done : (q : Question) (limits : Limits) (setup : Setup) (s : Status) (text : List ℕ) → IsWithinLimits q limits setup → IsPositionAnswer q limits setup s text → s ≡ Done
-within_done question.Values limits setup s text w h = shows_shown limits setup w.0 s text w.1 w.2 w.3 h
-within_done question.Solve limits setup s text w h = solves_sound question.Solve limits setup w.0 s text tt (λ e. absurd cc) w.1 w.2 h
-within_done question.Margin limits setup s text w h = solves_sound question.Margin limits setup w.0 s text tt (λ e. absurd cc) w.1 w.2 h
-within_done question.Moves limits setup s text w h = solves_sound question.Moves limits setup w.0 s text tt (λ e. absurd cc) w.1 w.2 h
-within_done question.Line limits setup s text w h = solves_sound question.Line limits setup w.0 s text tt (λ e. absurd cc) w.1 w.2 h
-within_done (question.WithCycles asked) limits setup s text w h = steady_done asked limits setup s text w h
-within_done question.Safe limits setup s text w h = plain_done question.Safe limits setup s text (λ n. n) h
-within_done question.Board limits setup s text w h = plain_done question.Board limits setup s text (λ n. n) h
+within_done : (q : Question) (terms : GameTerms) (setup : Setup) (s : Status) (text : List ℕ) → IsWithinLimits q terms setup → IsPositionAnswer q terms setup s text → s ≡ Done
+within_done question.Values terms setup s text w h = shows_shown terms setup w.0 s text w.1 w.2 w.3 h
+within_done question.Solve terms setup s text w h = solves_sound question.Solve terms setup w.0 s text tt (λ e. absurd cc) w.1 w.2 h
+within_done question.Margin terms setup s text w h = solves_sound question.Margin terms setup w.0 s text tt (λ e. absurd cc) w.1 w.2 h
+within_done question.Moves terms setup s text w h = solves_sound question.Moves terms setup w.0 s text tt (λ e. absurd cc) w.1 w.2 h
+within_done question.Line terms setup s text w h = solves_sound question.Line terms setup w.0 s text tt (λ e. absurd cc) w.1 w.2 h
+within_done (question.WithCycles asked) terms setup s text w h = steady_done asked terms setup s text w h
+within_done question.Safe terms setup s text w h = plain_done question.Safe terms setup s text (λ n. n) h
+within_done question.Board terms setup s text w h = plain_done question.Board terms setup s text (λ n. n) h
 
 -- an answer about the file is the text
-file_done : (q : Question) (limits : Limits) (file : List ℕ) (settings : Settings) (setup : Setup) (s : Status) (text : List ℕ) → Reads file settings (Ok setup) → IsWithinLimits q limits setup → IsFileAnswer q limits file settings s text → s ≡ Done
-file_done q limits file settings setup s text reads within h = go (file_or_position q limits file settings s text h) where
-  go : ((f : FileFault) × (s ≡ status.BadFile f) × Reads file settings (Err f)) ⊎ ((p : Setup) × Reads file settings (Ok p) × IsPositionAnswer q limits p s text) → s ≡ Done
+file_done : (q : Question) (terms : GameTerms) (file : List ℕ) (settings : Settings) (setup : Setup) (s : Status) (text : List ℕ) → Reads file settings (Ok setup) → IsWithinLimits q terms setup → IsFileAnswer q terms file settings s text → s ≡ Done
+file_done q terms file settings setup s text reads within h = go (file_or_position q terms file settings s text h) where
+  go : ((f : FileFault) × (s ≡ status.BadFile f) × Reads file settings (Err f)) ⊎ ((p : Setup) × Reads file settings (Ok p) × IsPositionAnswer q terms p s text) → s ≡ Done
   go (inl (f, e, bad)) = absurd (not_both file settings setup f reads bad)
-  go (inr (p, r, a)) = within_done q limits setup s text within (subst (λ x. IsPositionAnswer q limits x s text) (one_setup file settings p setup r reads) a)
+  go (inr (p, r, a)) = within_done q terms setup s text within (subst (λ x. IsPositionAnswer q terms x s text) (one_setup file settings p setup r reads) a)
 
-module _ (q : Question) (limits : Limits) (settings : Settings) (word : List ℕ) (a b : Known) (h : IsAnswerable q limits settings word a b) where
-  by_file : (s : Status) (text : List ℕ) → (file : List ℕ) × IsTold (told_of a.input word) file × HasFewBytes file × IsFileAnswer q limits file settings s text → s ≡ Done
+module _ (q : Question) (terms : GameTerms) (settings : Settings) (word : List ℕ) (a b : Known) (h : IsAnswerable q terms settings word a b) where
+  by_file : (s : Status) (text : List ℕ) → (file : List ℕ) × IsTold (told_of a.input word) file × HasFewBytes file × IsFileAnswer q terms file settings s text → s ≡ Done
   by_file s text (file, told, short, answer) =
       let k : IsTold (holding h.file) file = subst (λ x. IsTold x file) h.told told in
-      file_done q limits h.file settings h.setup s text h.reads h.within (subst (λ f. IsFileAnswer q limits f settings s text) (sym k) answer)
+      file_done q terms h.file settings h.setup s text h.reads h.within (subst (λ f. IsFileAnswer q terms f settings s text) (sym k) answer)
 
   not_absent : told_of a.input word ≡ absent → ⊥
   not_absent none = let k : Path Told (holding h.file) absent = sym h.told ∙ none in cc
@@ -72,7 +72,7 @@ module _ (q : Question) (limits : Limits) (settings : Settings) (word : List ℕ
   not_longer : IsLonger MOST_BYTES (told_of a.input word) → ⊥
   not_longer long = let k : IsLonger MOST_BYTES (holding h.file) = subst (IsLonger MOST_BYTES) h.told long in omega (arith, h.short, k)
 
-  answer_done : (s : Status) (text : List ℕ) → IsAnswer q limits settings word a.input b.input s text → s ≡ Done
+  answer_done : (s : Status) (text : List ℕ) → IsAnswer q terms settings word a.input b.input s text → s ≡ Done
   answer_done CannotRead text (inl none, is) = absurd (not_absent none)
   answer_done CannotRead text (inr rose, is) = absurd (count_stays word a b h.calm rose)
   answer_done status.TooLong text (long, is) = absurd (not_longer long)
@@ -115,7 +115,7 @@ calc_done limit expression none status.FormLimit text h = absurd h
 calc_done limit expression none (status.BadFile f) text h = absurd h
 
 -- a game that no read and no write broke off
-game_done : (job : Job) (word : List ℕ) (a b : Known) (s : Status) → IsCalm a b → IsPlayedGame (limits_of job) job.cycles job.engine job.settings word a s b → IsDone s ⊎ HasManyLines job word a s
+game_done : (job : Job) (word : List ℕ) (a b : Known) (s : Status) → IsCalm a b → IsPlayedGame (terms_of job) job.cycles job.engine job.settings word a s b → IsDone s ⊎ HasManyLines job word a s
 game_done job word a b Done calm g = inl (inl refl)
 game_done job word a b TooManyLines calm (engine, state, game, run) = inr (refl, (engine, state, game, map_told _ _ a.input.left (λ bytes h. (h.0, h.2.0)) run.written))
 game_done job word a b CannotRead calm (engine, state, game, run) = absurd (calm.reads (run.read refl))
@@ -150,12 +150,12 @@ engine_done job a b status.CaptureLimit read write e = absurd e.ends
 
 module _ {H S K : Type 0} (o : Outside H S K) (job : Job) (a b : Desk H S K) (s : Status) where
   complete : (task : Task) → RunsTask o task job a s b → IsComplete task job (known o a) s (known o b)
-  complete (ask q word) r = λ h. decided_done _ _ _ _ _ s (answer_done q (limits_of job) job.settings word (known o a) (known o b) h) h.calm.writes r.written
+  complete (ask q word) r = λ h. decided_done _ _ _ _ _ s (answer_done q (terms_of job) job.settings word (known o a) (known o b) h) h.calm.writes r.written
   complete (trial number) r = λ calm. decided_done (IsTrialAnswer number) _ _ _ _ s (λ t text d. d.0) calm r.written
   complete (calc expression) r = λ none calm. decided_done (IsCalc job.parts expression) _ _ _ _ s (calc_done job.parts expression none) calm r.written
   complete gtp r = λ read write. engine_done job (known o a) (known o b) s read write r.played
   complete (play word) r = λ h. elim r.outcome [
-    | inl u ↦ inl (decided_done _ _ _ _ _ s (λ t text d. answer_done (question_of_game job.cycles) (limits_of job) job.settings word (known o a) (known o b) h t text d.0) h.calm.writes u.0)
+    | inl u ↦ inl (decided_done _ _ _ _ _ s (λ t text d. answer_done (question_of_game job.cycles) (terms_of job) job.settings word (known o a) (known o b) h t text d.0) h.calm.writes u.0)
     | inr g ↦ game_done job word (known o a) (known o b) s h.calm g
   ]
 

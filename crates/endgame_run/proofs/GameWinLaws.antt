@@ -11,7 +11,7 @@ use Rattle.go_grid.specs.declared.grid.Colour.TheVariants.{Black, White}
 use Rattle.go_grid.specs.Chain.{IsSettled}
 use Rattle.sgf_go.specs.declared.settings.Settings.{Settings}
 use Rattle.go_play.specs.Setup.{Setup}
-use Rattle.endgame_solver.specs.declared.limits.Limits.{Limits}
+use Rattle.endgame_run.specs.declared.terms.GameTerms.{GameTerms}
 use Rattle.whole_budgets.specs.EnginePlay.{Serves}
 use Rattle.engine_player.specs.Played.{BothServe, Keeping}
 use Rattle.engine_player.specs.Opening.{OpensGame}
@@ -130,9 +130,9 @@ nothing_serves : (k : Keeping) (s : Whole) → k.black ≡ None → k.white ≡ 
 nothing_serves k s black white Black = subst (Serves k.regions Black s) (sym black) tt
 nothing_serves k s black white White = subst (Serves k.regions White s) (sym white) tt
 
-sound_start : (cycles : Bool) (limits : Limits) (setup : Setup) (p : EngineGame) → IsSettled setup.board → OpensGame cycles limits setup p → IsSoundKeeping p.keeping p.state
-sound_start false limits setup p settled (playable, is) = subst (λ k. IsSoundKeeping k p.state) (sym is) tt
-sound_start true limits setup p settled (keeping, (opening, cut, steady, black, white, moves), is) = subst (λ k. IsSoundKeeping k p.state) (sym is) (
+sound_start : (cycles : Bool) (terms : GameTerms) (setup : Setup) (p : EngineGame) → IsSettled setup.board → OpensGame cycles terms.limits terms.tax setup p → IsSoundKeeping p.keeping p.state
+sound_start false terms setup p settled (playable, is) = subst (λ k. IsSoundKeeping k p.state) (sym is) tt
+sound_start true terms setup p settled (keeping, (opening, cut, steady, black, white, moves), is) = subst (λ k. IsSoundKeeping k p.state) (sym is) (
   (
     setup.board,
     record {
@@ -140,7 +140,7 @@ sound_start true limits setup p settled (keeping, (opening, cut, steady, black, 
       white_prisoners = setup.white_prisoners;
       komi = setup.komi_halves;
       side = setup.side;
-      tax = limits.tax;
+      tax = terms.tax;
       start = p.state;
       moves = [];
       untouched = p.state.purses;
@@ -154,9 +154,9 @@ sound_start true limits setup p settled (keeping, (opening, cut, steady, black, 
   nothing_serves keeping p.state black white,
 )
 
-sound_game : (limits : Limits) (cycles : Bool) (given : Option Colour) (settings : Settings) (word : List ℕ) (i : Input) (engine : Colour) (s : EngineGame)
-    → IsGame limits cycles given settings word i engine s → IsSoundKeeping s.keeping s.state
-sound_game limits cycles given settings word i engine s game = sound_start cycles limits game.setup s game.settled game.playable
+sound_game : (terms : GameTerms) (cycles : Bool) (given : Option Colour) (settings : Settings) (word : List ℕ) (i : Input) (engine : Colour) (s : EngineGame)
+    → IsGame terms cycles given settings word i engine s → IsSoundKeeping s.keeping s.state
+sound_game terms cycles given settings word i engine s game = sound_start cycles terms game.setup s game.settled game.playable
 
 -- an engine keeps what it has won, in every run
 module _ {H S K : Type 0} (o : Outside H S K) (job : Job) (a b : Desk H S K) (status : Status) where

@@ -10,14 +10,14 @@ use Rattle.gd_words.specs.Job.{IsJob, Job}
 use Rattle.gd_words.specs.Task.{BeginWith, Task, admitting}
 use Rattle.gd_words.specs.Task.Task.{ask, calc, gtp, play, trial}
 use Rattle.sgf_go.specs.declared.settings.Settings.{Settings}
-use Rattle.endgame_solver.specs.declared.limits.Limits.{Limits}
+use Rattle.endgame_run.specs.declared.terms.GameTerms.{GameTerms}
 use Rattle.gtp_engine.specs.declared.limits.EngineLimits.{EngineLimits}
 use Rattle.board_session.specs.declared.limits.BoardLimits.{BoardLimits}
 use Rattle.endgame_run.specs.Calc.{RunsCalc}
 use Rattle.endgame_run.specs.Engine.{AreSessionSteps, RunsEngine, board_rules, engine_rules}
 use Rattle.endgame_run.specs.File.{dash, told_of}
 use Rattle.endgame_run.specs.Game.{PlaysFile, question_of_game}
-use Rattle.endgame_run.specs.Limits.{board_limits, engine_limits, limits_of}
+use Rattle.endgame_run.specs.Limits.{board_limits, engine_limits, terms_of}
 use Rattle.endgame_run.specs.Output.{CountsWrites, HasCauses, HasReason, HoldsSession, IsDecided, IsPart, RefusesNoJob, WritesPart}
 use Rattle.endgame_run.specs.Question.{AnswersQuestion, AreToldSteps, IsAnswer}
 use Rattle.endgame_run.specs.Run.{AreTaskSteps, Runs, RunsTask}
@@ -52,14 +52,14 @@ played_apart words job word said is =
     (subst (λ t. BeginWith t words said.rest) spoken said.task).3.3
 
 module _ {H S K : Type 0} (o : Outside H S K) (job : Job) (a : Desk H S K) (status : Status) (b : Desk H S K) where
-  pub question_runs : (q : Question) (limits : Limits) (word : List ℕ) → job.task ≡ ask q word → limits ≡ limits_of job → AnswersQuestion o q limits job.settings word a status b → Runs o job a status b
-  question_runs q limits word is same h = subst (λ t. RunsTask o t job a status b) (sym is) (subst (λ l. AnswersQuestion o q l job.settings word a status b) same h)
+  pub question_runs : (q : Question) (terms : GameTerms) (word : List ℕ) → job.task ≡ ask q word → terms ≡ terms_of job → AnswersQuestion o q terms job.settings word a status b → Runs o job a status b
+  question_runs q terms word is same h = subst (λ t. RunsTask o t job a status b) (sym is) (subst (λ l. AnswersQuestion o q l job.settings word a status b) same h)
 
-  pub game_runs : (limits : Limits) (cycles : Bool) (given : Option Colour) (word : List ℕ) → job.task ≡ play word → limits ≡ limits_of job → cycles ≡ job.cycles
-      → given ≡ job.engine → PlaysFile o limits cycles given job.settings word a status b → Runs o job a status b
-  game_runs limits cycles given word is same kos own h =
+  pub game_runs : (terms : GameTerms) (cycles : Bool) (given : Option Colour) (word : List ℕ) → job.task ≡ play word → terms ≡ terms_of job → cycles ≡ job.cycles
+      → given ≡ job.engine → PlaysFile o terms cycles given job.settings word a status b → Runs o job a status b
+  game_runs terms cycles given word is same kos own h =
       subst (λ t. RunsTask o t job a status b) (sym is) (subst (λ l. PlaysFile o l job.cycles job.engine job.settings word a status b) same
-      (subst (λ k. PlaysFile o limits k job.engine job.settings word a status b) kos (subst (λ c. PlaysFile o limits cycles c job.settings word a status b) own h)))
+      (subst (λ k. PlaysFile o terms k job.engine job.settings word a status b) kos (subst (λ c. PlaysFile o terms cycles c job.settings word a status b) own h)))
 
   pub trial_runs : (number : ℕ) → job.task ≡ trial number → RunsTrial o number a status b → Runs o job a status b
   trial_runs number is h = subst (λ t. RunsTask o t job a status b) (sym is) h
@@ -81,15 +81,15 @@ module _ (job : Job) (i j : Input) (before now : ℕ) where
   pub task_steps : (task : Task) → job.task ≡ task → AreTaskSteps task job i j before now → AreTaskSteps job.task job i j before now
   task_steps task is h = subst (λ t. AreTaskSteps t job i j before now) (sym is) h
 
-  pub question_steps : (q : Question) (limits : Limits) (word : List ℕ) → job.task ≡ ask q word → limits ≡ limits_of job → AreToldSteps q limits (told_of i word) job.settings before now
+  pub question_steps : (q : Question) (terms : GameTerms) (word : List ℕ) → job.task ≡ ask q word → terms ≡ terms_of job → AreToldSteps q terms.limits (told_of i word) job.settings before now
       → AreTaskSteps job.task job i j before now
-  question_steps q limits word is same h = task_steps (ask q word) is (subst (λ l. AreToldSteps q l (told_of i word) job.settings before now) same h)
+  question_steps q terms word is same h = task_steps (ask q word) is (subst (λ l. AreToldSteps q l.limits (told_of i word) job.settings before now) same h)
 
-  pub game_steps : (cycles : Bool) (limits : Limits) (word : List ℕ) → job.task ≡ play word → limits ≡ limits_of job → cycles ≡ job.cycles
-      → AreToldSteps (question_of_game cycles) limits (told_of i word) job.settings before now → AreTaskSteps job.task job i j before now
-  game_steps cycles limits word is same kos h =
-      task_steps (play word) is (subst (λ l. AreToldSteps (question_of_game job.cycles) l (told_of i word) job.settings before now) same
-      (subst (λ k. AreToldSteps (question_of_game k) limits (told_of i word) job.settings before now) kos h))
+  pub game_steps : (cycles : Bool) (terms : GameTerms) (word : List ℕ) → job.task ≡ play word → terms ≡ terms_of job → cycles ≡ job.cycles
+      → AreToldSteps (question_of_game cycles) terms.limits (told_of i word) job.settings before now → AreTaskSteps job.task job i j before now
+  game_steps cycles terms word is same kos h =
+      task_steps (play word) is (subst (λ l. AreToldSteps (question_of_game job.cycles) l.limits (told_of i word) job.settings before now) same
+      (subst (λ k. AreToldSteps (question_of_game k) terms.limits (told_of i word) job.settings before now) kos h))
 
   pub engine_steps : (limits : EngineLimits) → job.task ≡ gtp → job.keep_board ≡ false → limits ≡ engine_limits job → AreSessionSteps (engine_rules limits) i j before now → AreTaskSteps job.task job i j before now
   engine_steps limits is own same h = task_steps gtp is
@@ -151,11 +151,11 @@ module _ (decided : Status → List ℕ → Type 0) (proper : IsProper decided) 
   part s (inr (t, text, d, inr f)) = subst (λ r. IsPart decided a r b) (sym f.0) (t, text, f.2.0, d, f.2.1)
 
 -- the texts of every task are proper
-answers_proper : (q : Question) (limits : Limits) (settings : Settings) (word : List ℕ) (i j : Input) → IsProper (IsAnswer q limits settings word i j)
-answers_proper q limits settings word i j = record { memory = λ text h. h.3.2; write = λ text h. h.3.2 }
+answers_proper : (q : Question) (terms : GameTerms) (settings : Settings) (word : List ℕ) (i j : Input) → IsProper (IsAnswer q terms settings word i j)
+answers_proper q terms settings word i j = record { memory = λ text h. h.3.2; write = λ text h. h.3.2 }
 
 decided_proper : (task : Task) (job : Job) (i j : Input) → IsProper (IsDecided task job i j)
-decided_proper (ask q word) job i j = answers_proper q (limits_of job) job.settings word i j
+decided_proper (ask q word) job i j = answers_proper q (terms_of job) job.settings word i j
 decided_proper (play word) job i j = record { memory = λ text h. h.0.3.2; write = λ text h. h.0.3.2 }
 decided_proper (trial number) job i j = record { memory = λ text h. absurd (let k : Path Status Memory Done = h.0 in cc); write = λ text h. absurd (let k : Path Status CannotWrite Done = h.0 in cc) }
 decided_proper (calc expression) job i j = record { memory = λ text h. h; write = λ text h. h }

@@ -21,7 +21,7 @@ use Rattle.endgame_run.specs.File.{TakesAtMost, most_of_game}
 use Rattle.endgame_run.specs.Written.{Finishes}
 use Rattle.desk_io.specs.Desk.{Input, Known}
 use Rattle.desk_io.specs.Lines.{UsesLines}
-use Rattle.endgame_solver.specs.declared.limits.Limits.{Limits}
+use Rattle.endgame_run.specs.declared.terms.GameTerms.{GameTerms}
 use Rattle.endgame_run.specs.declared.question.Opened.{Opened}
 use Rattle.endgame_run.specs.declared.question.Opened.TheVariants.{Fault, Game}
 use Rattle.endgame_run.specs.declared.question.Report.{Report}
@@ -139,25 +139,25 @@ lines_taken session held before now none used few = λ bytes e.
     (u.0 ++ held, u.1, u.2, ap (λ l. l ++ bytes) (sym none) ∙ u.3 ∙ sym (append_assoc u.0 held u.1), omega (arith, u.4, few, length-append u.0 held))
 
 -- a game that was opened, over lines that were not read for it
-pub opened_game : (limits : Limits) (cycles : Bool) (given : Option Colour) (settings : Settings) (word : List ℕ) (a b : Known) (j : Input) (status : Status) (opened : Opened) (session : Session)
-    → opened ≡ Game session → IsOpened limits cycles given settings word a.input j opened
-    → IsPlayRun session.engine session.game a.input.left a.input.reads b.input.reads a.writes b.writes a.holds b.holds status → IsPlayedGame limits cycles given settings word a status b
-opened_game limits cycles given settings word a b j status opened session e h run =
-    let k : IsOpened limits cycles given settings word a.input j (Game session) = subst (IsOpened limits cycles given settings word a.input j) e h in
+pub opened_game : (terms : GameTerms) (cycles : Bool) (given : Option Colour) (settings : Settings) (word : List ℕ) (a b : Known) (j : Input) (status : Status) (opened : Opened) (session : Session)
+    → opened ≡ Game session → IsOpened terms cycles given settings word a.input j opened
+    → IsPlayRun session.engine session.game a.input.left a.input.reads b.input.reads a.writes b.writes a.holds b.holds status → IsPlayedGame terms cycles given settings word a status b
+opened_game terms cycles given settings word a b j status opened session e h run =
+    let k : IsOpened terms cycles given settings word a.input j (Game session) = subst (IsOpened terms cycles given settings word a.input j) e h in
     (session.engine, session.game, k.0, run)
 
 -- a game that begins has room for all turns of a session
-begins_with_room : (cycles : Bool) (limits : Limits) (setup : Setup) (p : EngineGame) → OpensGame cycles limits setup p → CanTake MOST_TURNS p
-begins_with_room false limits setup p (playable, is) = subst (MayHaveMovesLeft MOST_TURNS) (sym is) tt
-begins_with_room true limits setup p (keeping, begins, is) = subst (MayHaveMovesLeft MOST_TURNS) (sym is) (omega (arith, begins.5))
+begins_with_room : (cycles : Bool) (terms : GameTerms) (setup : Setup) (p : EngineGame) → OpensGame cycles terms.limits terms.tax setup p → CanTake MOST_TURNS p
+begins_with_room false terms setup p (playable, is) = subst (MayHaveMovesLeft MOST_TURNS) (sym is) tt
+begins_with_room true terms setup p (keeping, begins, is) = subst (MayHaveMovesLeft MOST_TURNS) (sym is) (omega (arith, begins.5))
 
-pub opened_room : (limits : Limits) (cycles : Bool) (given : Option Colour) (settings : Settings) (word : List ℕ) (i j : Input) (opened : Opened) (session : Session)
-    → opened ≡ Game session → IsOpened limits cycles given settings word i j opened → CanTake MOST_TURNS session.game
-opened_room limits cycles given settings word i j opened session e h =
-    let k : IsOpened limits cycles given settings word i j (Game session) = subst (IsOpened limits cycles given settings word i j) e h in
-    begins_with_room cycles limits k.0.setup session.game k.0.playable
+pub opened_room : (terms : GameTerms) (cycles : Bool) (given : Option Colour) (settings : Settings) (word : List ℕ) (i j : Input) (opened : Opened) (session : Session)
+    → opened ≡ Game session → IsOpened terms cycles given settings word i j opened → CanTake MOST_TURNS session.game
+opened_room terms cycles given settings word i j opened session e h =
+    let k : IsOpened terms cycles given settings word i j (Game session) = subst (IsOpened terms cycles given settings word i j) e h in
+    begins_with_room cycles terms k.0.setup session.game k.0.playable
 
 -- what keeps a game from being begun
-pub opened_fault : (limits : Limits) (cycles : Bool) (given : Option Colour) (settings : Settings) (word : List ℕ) (i j : Input) (opened : Opened) (report : Report) → opened ≡ Fault report
-    → IsOpened limits cycles given settings word i j opened → IsAnswer (question_of_game cycles) limits settings word i j report.status report.text × (report.status ≢ Done)
-opened_fault limits cycles given settings word i j opened report e h = subst (IsOpened limits cycles given settings word i j) e h
+pub opened_fault : (terms : GameTerms) (cycles : Bool) (given : Option Colour) (settings : Settings) (word : List ℕ) (i j : Input) (opened : Opened) (report : Report) → opened ≡ Fault report
+    → IsOpened terms cycles given settings word i j opened → IsAnswer (question_of_game cycles) terms settings word i j report.status report.text × (report.status ≢ Done)
+opened_fault terms cycles given settings word i j opened report e h = subst (IsOpened terms cycles given settings word i j) e h

@@ -18,7 +18,7 @@ use Rattle.gd_words.specs.Task.Task.{ask}
 use Rattle.report.specs.CycleSolution.{captures_line, winner_or_none}
 use Rattle.report.specs.Solution.{count_line, move_line, purse_line, regions_text, solved_line, solved_lines, state_lines, token_word}
 use Rattle.board_words.specs.Words.{colour_word, winner_line, word_line}
-use Rattle.endgame_run.specs.Limits.{limits_of}
+use Rattle.endgame_run.specs.Limits.{terms_of}
 use Rattle.endgame_run.specs.Line.{HasOnlyLine}
 use Rattle.endgame_run.specs.Question.{IsAnswer}
 use Rattle.endgame_run.specs.Run.{Runs, RunsTask, RunsWords}
@@ -193,7 +193,7 @@ module _ (words : List (List ℕ)) (job : Job) (word : List ℕ) (a b : Known) w
   abbrev Says : Type 0
   Says = WritesWinner words a b × WritesMove words a b
 
-  both : (q : Question) → AreToSolve words job q word → (text : List ℕ) → IsAnswer q (limits_of job) job.settings word a.input b.input Done text → b.holds ≡ append_known a.holds text → Says
+  both : (q : Question) → AreToSolve words job q word → (text : List ℕ) → IsAnswer q (terms_of job) job.settings word a.input b.input Done text → b.holds ≡ append_known a.holds text → Says
   both question.Solve asks text (file, told, short, (setup, reads, v)) e =
       let posed : IsPosed words question.Solve a.input setup v.state = record { job = job; word = word; file = file; asks = asks; told = told; short = short; reads = reads; opening = v.solution.opening } in
       let written = e ∙ ap (append_known a.holds) v.is in (
@@ -248,10 +248,10 @@ module _ (words : List (List ℕ)) (job : Job) (word : List ℕ) (a b : Known) w
       )
   both q asks text h e = absurd asks.winner
 
-  reported : (q : Question) → AreToSolve words job q word → Reports (IsAnswer q (limits_of job) job.settings word a.input b.input) a.writes b.writes a.holds b.holds Done → Says
+  reported : (q : Question) → AreToSolve words job q word → Reports (IsAnswer q (terms_of job) job.settings word a.input b.input) a.writes b.writes a.holds b.holds Done → Says
   reported q asks (inl m) = absurd (let k : Path Status Done Memory = m.0 in cc)
   reported q asks (inr (s, text, d, inr f)) = absurd (let k : Path Status Done status.CannotWrite = f.0 in cc)
-  reported q asks (inr (s, text, d, inl f)) = both q asks text (subst (λ r. IsAnswer q (limits_of job) job.settings word a.input b.input r text) (sym f.0) d) f.1
+  reported q asks (inr (s, text, d, inl f)) = both q asks text (subst (λ r. IsAnswer q (terms_of job) job.settings word a.input b.input r text) (sym f.0) d) f.1
 
 pub writes_both : {H S K : Type 0} (o : Outside H S K) (words : List (List ℕ)) (a b : Desk H S K) (status : Status) → RunsWords o words a status b → status ≡ Done → AskToSolve words
     → WritesWinner words (known o a) (known o b) × WritesMove words (known o a) (known o b)

@@ -10,7 +10,7 @@ use Rattle.desk_io.specs.Files.{IsTold, Told, told_source}
 use Rattle.go_grid.specs.declared.grid.Colour.{Colour}
 use Rattle.sgf_go.specs.declared.settings.Settings.{Settings}
 use Rattle.go_play.specs.Setup.{Setup}
-use Rattle.endgame_solver.specs.declared.limits.Limits.{Limits}
+use Rattle.endgame_run.specs.declared.terms.GameTerms.{GameTerms}
 use Rattle.endgame_solver.specs.declared.faults.SolveError.{SolveError}
 use Rattle.endgame_solver.specs.declared.faults.SolveError.TheVariants.{Points, Positions, Cycle, Form}
 use Rattle.endgame_solver.specs.declared.faults.SolveError.TheVariants as error
@@ -34,22 +34,22 @@ use Rattle.endgame_run.specs.inner.Found.{IsFoundInFile}
 use Rattle.endgame_run.specs.inner.Top.{IsBegun, IsOpened}
 
 -- a position's status is an answer about its file
-pub position_answer : (q : Question) (limits : Limits) (told : Told) (before now : ℕ) (settings : Settings) (setup : Setup) (s : Status) (text : List ℕ)
-    → IsPositionOf told settings setup → IsPositionAnswer q limits setup s text → IsVerdict q limits told before now settings s text
-position_answer q limits told before now settings setup Done text p h = (p.file, p.told_so, p.short, (setup, p.reads, h))
-position_answer q limits told before now settings setup status.Cycle text p h = (p.file, p.told_so, p.short, (setup, p.reads, h))
-position_answer q limits told before now settings setup status.RegionLimit text p h = (p.file, p.told_so, p.short, (setup, p.reads, h))
-position_answer q limits told before now settings setup status.FormLimit text p h = (p.file, p.told_so, p.short, (setup, p.reads, h))
-position_answer q limits told before now settings setup Usage text p h = absurd h
-position_answer q limits told before now settings setup CannotRead text p h = absurd h
-position_answer q limits told before now settings setup CannotWrite text p h = absurd h
-position_answer q limits told before now settings setup TooLong text p h = absurd h
-position_answer q limits told before now settings setup TooManyLines text p h = absurd h
-position_answer q limits told before now settings setup Memory text p h = absurd h
-position_answer q limits told before now settings setup (BadFile f) text p h = absurd h
-position_answer q limits told before now settings setup (status.BadExpression f) text p h = absurd h
-position_answer q limits told before now settings setup status.CalcLimit text p h = absurd h
-position_answer q limits told before now settings setup status.CaptureLimit text p h = (p.file, p.told_so, p.short, (setup, p.reads, h))
+pub position_answer : (q : Question) (terms : GameTerms) (told : Told) (before now : ℕ) (settings : Settings) (setup : Setup) (s : Status) (text : List ℕ)
+    → IsPositionOf told settings setup → IsPositionAnswer q terms setup s text → IsVerdict q terms told before now settings s text
+position_answer q terms told before now settings setup Done text p h = (p.file, p.told_so, p.short, (setup, p.reads, h))
+position_answer q terms told before now settings setup status.Cycle text p h = (p.file, p.told_so, p.short, (setup, p.reads, h))
+position_answer q terms told before now settings setup status.RegionLimit text p h = (p.file, p.told_so, p.short, (setup, p.reads, h))
+position_answer q terms told before now settings setup status.FormLimit text p h = (p.file, p.told_so, p.short, (setup, p.reads, h))
+position_answer q terms told before now settings setup Usage text p h = absurd h
+position_answer q terms told before now settings setup CannotRead text p h = absurd h
+position_answer q terms told before now settings setup CannotWrite text p h = absurd h
+position_answer q terms told before now settings setup TooLong text p h = absurd h
+position_answer q terms told before now settings setup TooManyLines text p h = absurd h
+position_answer q terms told before now settings setup Memory text p h = absurd h
+position_answer q terms told before now settings setup (BadFile f) text p h = absurd h
+position_answer q terms told before now settings setup (status.BadExpression f) text p h = absurd h
+position_answer q terms told before now settings setup status.CalcLimit text p h = absurd h
+position_answer q terms told before now settings setup status.CaptureLimit text p h = (p.file, p.told_so, p.short, (setup, p.reads, h))
 
 pub found_position : (settings : Settings) (word : List ℕ) (i j : Input) (found : Found) (setup : Setup) → found ≡ Position setup
     → IsFoundInFile settings word i j found → IsPositionOf (told_of i word) settings setup
@@ -64,33 +64,33 @@ is_refusal (Form p) s h = inr (inr h)
 is_refusal (error.Memory e) s h = absurd h
 
 -- a question that needs regions is refused where they are
-question_refused : (q : Question) (limits : Limits) (setup : Setup) (s : Status) (text : List ℕ) → TakesNoCycles q → NeedsRegions q → IsRefused limits setup s text → IsQuestionRefused q limits setup s text
-question_refused Solve limits setup s text plain needs r = r
-question_refused Margin limits setup s text plain needs r = r
-question_refused Moves limits setup s text plain needs r = r
-question_refused Line limits setup s text plain needs r = r
-question_refused Values limits setup s text plain needs r = inl r
-question_refused Safe limits setup s text plain needs r = absurd needs
-question_refused Board limits setup s text plain needs r = absurd needs
-question_refused (WithCycles asked) limits setup s text plain needs r = absurd plain
+question_refused : (q : Question) (terms : GameTerms) (setup : Setup) (s : Status) (text : List ℕ) → TakesNoCycles q → NeedsRegions q → IsRefused terms setup s text → IsQuestionRefused q terms setup s text
+question_refused Solve terms setup s text plain needs r = r
+question_refused Margin terms setup s text plain needs r = r
+question_refused Moves terms setup s text plain needs r = r
+question_refused Line terms setup s text plain needs r = r
+question_refused Values terms setup s text plain needs r = inl r
+question_refused Safe terms setup s text plain needs r = absurd needs
+question_refused Board terms setup s text plain needs r = absurd needs
+question_refused (WithCycles asked) terms setup s text plain needs r = absurd plain
 
-pub refused_answer : (q : Question) (limits : Limits) (setup : Setup) (s : Status) (text : List ℕ) → TakesNoCycles q → NeedsRegions q → IsRefused limits setup s text
-    → IsPositionAnswer q limits setup s text × (s ≢ Done)
-refused_answer q limits setup s text plain needs r = go (is_refusal r.fault s r.status) where
-  at : (t : Status) → (IsQuestionRefused q limits setup t text → IsPositionAnswer q limits setup t text) → s ≡ t → IsPositionAnswer q limits setup s text
-  at t is e = subst (λ x. IsPositionAnswer q limits setup x text) (sym e) (is (question_refused q limits setup t text plain needs (subst (λ x. IsRefused limits setup x text) e r)))
+pub refused_answer : (q : Question) (terms : GameTerms) (setup : Setup) (s : Status) (text : List ℕ) → TakesNoCycles q → NeedsRegions q → IsRefused terms setup s text
+    → IsPositionAnswer q terms setup s text × (s ≢ Done)
+refused_answer q terms setup s text plain needs r = go (is_refusal r.fault s r.status) where
+  at : (t : Status) → (IsQuestionRefused q terms setup t text → IsPositionAnswer q terms setup t text) → s ≡ t → IsPositionAnswer q terms setup s text
+  at t is e = subst (λ x. IsPositionAnswer q terms setup x text) (sym e) (is (question_refused q terms setup t text plain needs (subst (λ x. IsRefused terms setup x text) e r)))
 
-  go : (s ≡ status.RegionLimit) ⊎ ((s ≡ status.Cycle) ⊎ (s ≡ status.FormLimit)) → IsPositionAnswer q limits setup s text × (s ≢ Done)
+  go : (s ≡ status.RegionLimit) ⊎ ((s ≡ status.Cycle) ⊎ (s ≡ status.FormLimit)) → IsPositionAnswer q terms setup s text × (s ≢ Done)
   go (inl e) = (at status.RegionLimit (λ x. x) e, λ d. absurd cc)
   go (inr (inl e)) = (at status.Cycle (λ x. x) e, λ d. absurd cc)
   go (inr (inr e)) = (at status.FormLimit (λ x. x) e, λ d. absurd cc)
 
 -- a position that was begun, or refused, of a file
-pub begun_opened : (limits : Limits) (cycles : Bool) (given : Option Colour) (settings : Settings) (word : List ℕ) (i j : Input) (setup : Setup) (opened : Opened)
-    → IsPositionOf (told_of i word) settings setup → IsBegun limits cycles given setup opened → IsOpened limits cycles given settings word i j opened
-begun_opened limits cycles given settings word i j setup (opened.Game session) p h = (record { setup = setup; position = p; settled = h.0; playable = h.1; colour = h.2 }, h.3)
-begun_opened limits cycles given settings word i j setup (opened.Fault report) p r =
-    (position_answer (question_of_game cycles) limits _ _ _ settings setup report.status report.text p r.0, r.1)
+pub begun_opened : (terms : GameTerms) (cycles : Bool) (given : Option Colour) (settings : Settings) (word : List ℕ) (i j : Input) (setup : Setup) (opened : Opened)
+    → IsPositionOf (told_of i word) settings setup → IsBegun terms cycles given setup opened → IsOpened terms cycles given settings word i j opened
+begun_opened terms cycles given settings word i j setup (opened.Game session) p h = (record { setup = setup; position = p; settled = h.0; playable = h.1; colour = h.2 }, h.3)
+begun_opened terms cycles given settings word i j setup (opened.Fault report) p r =
+    (position_answer (question_of_game cycles) terms _ _ _ settings setup report.status report.text p r.0, r.1)
 
 -- a game needs the regions
 pub game_needs : (cycles : Bool) → NeedsRegions (question_of_game cycles)

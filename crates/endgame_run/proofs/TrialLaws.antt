@@ -17,7 +17,7 @@ fewer_positions : (touch : List Touch) (cells : List Cell) (m n : ℕ) → m ≤
 fewer_positions touch cells m n le h = record { found = h.found; different = h.different; reachable = h.reachable; many = omega (arith, le, h.many) }
 
 -- nothing but want of memory keeps short regions from being solved
-pub only_memory : (setup : Setup) (fault : SolveError) → HasShortRegions setup.board → Begun setup trial_limits (Err fault) → IsWantOfMemory fault
+pub only_memory : (setup : Setup) (fault : SolveError) → HasShortRegions setup.board → Begun setup false trial_limits (Err fault) → IsWantOfMemory fault
 only_memory setup (Memory e) short b = tt
 only_memory setup (Points p n) short (regions, are, (k, lt, low, many, large, before)) =
     let s = short regions are _ (Contains-get_or regions k no_region lt) in absurd (omega (arith, s.points, many, large))

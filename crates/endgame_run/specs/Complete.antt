@@ -13,7 +13,7 @@ use Rattle.game_calc.specs.declared.errors.CalcFault.{CalcFault}
 use Rattle.gd_words.specs.Job.{Job}
 use Rattle.gd_words.specs.declared.job.Question.{Question}
 use Rattle.gd_words.specs.declared.job.Question.TheVariants.{Board, Safe, Values, WithCycles}
-use Rattle.endgame_solver.specs.declared.limits.Limits.{Limits}
+use Rattle.endgame_run.specs.declared.terms.GameTerms.{GameTerms}
 use Rattle.gd_words.specs.Task.{Task}
 use Rattle.gd_words.specs.Task.Task.{ask, calc, gtp, play, trial}
 use Rattle.region_cut.specs.Cut.{AreRegionsOfPlay}
@@ -28,20 +28,20 @@ use Rattle.endgame_run.specs.File.{told_of}
 use Rattle.endgame_run.specs.Game.{IsGame, IsSessionOf, question_of_game}
 use Rattle.go_grid.specs.declared.grid.Colour.{Colour}
 use Rattle.engine_player.specs.EngineGame.{EngineGame}
-use Rattle.endgame_run.specs.Limits.{limits_of}
+use Rattle.endgame_run.specs.Limits.{terms_of}
 use Rattle.endgame_run.specs.Run.{Runs}
 use Rattle.endgame_run.specs.declared.status.Status.{Status}
 use Rattle.endgame_run.specs.declared.status.Status.TheVariants.{Done, Memory, TooManyLines}
 
 -- the regions of play that the question asks about are all sound within its limits, or steady where they may have cycles, and the values that
 -- it asks for can all be shown
-abbrev pub IsWithinLimits : Question → Limits → Setup → Type 0
-IsWithinLimits Safe limits setup = ⊤
-IsWithinLimits Board limits setup = ⊤
-IsWithinLimits Values limits setup = (regions : List Region) × AreRegionsOfPlay setup.board regions × AreSound limits regions
+abbrev pub IsWithinLimits : Question → GameTerms → Setup → Type 0
+IsWithinLimits Safe terms setup = ⊤
+IsWithinLimits Board terms setup = ⊤
+IsWithinLimits Values terms setup = (regions : List Region) × AreRegionsOfPlay setup.board regions × AreSound terms.limits regions
     × ((k : ℕ) → k < length regions → HasShownValue (region_at regions k))
-IsWithinLimits (WithCycles asked) limits setup = IsSteadyFor asked limits setup
-IsWithinLimits question limits setup = (regions : List Region) × AreRegionsOfPlay setup.board regions × AreSound limits regions
+IsWithinLimits (WithCycles asked) terms setup = IsSteadyFor asked terms setup
+IsWithinLimits question terms setup = (regions : List Region) × AreRegionsOfPlay setup.board regions × AreSound terms.limits regions
 
 -- no read, no load and no write has failed
 pub record IsCalm (a b : Known) : Type 0 where
@@ -50,13 +50,13 @@ pub record IsCalm (a b : Known) : Type 0 where
   pub writes : ¬ Rose a.writes b.writes
 
 -- the file of the word is told, it is read, all that the question asks is within its limits, and no count of faults has risen
-pub record IsAnswerable (question : Question) (limits : Limits) (settings : Settings) (word : List ℕ) (a b : Known) : Type 0 where
+pub record IsAnswerable (question : Question) (terms : GameTerms) (settings : Settings) (word : List ℕ) (a b : Known) : Type 0 where
   pub file : List ℕ
   pub setup : Setup
   pub told : told_of a.input word ≡ holding file
   pub short : HasFewBytes file
   pub reads : Reads file settings (Ok setup)
-  pub within : IsWithinLimits question limits setup
+  pub within : IsWithinLimits question terms setup
   pub calm : IsCalm a b
 
 -- the run is done, or memory was wanted
@@ -65,7 +65,7 @@ IsDone status = (status ≡ Done) ⊎ (status ≡ Memory)
 
 -- 10,000 lines were read of a game, and its session over the bytes ends so
 abbrev pub HasManyLines : Job → List ℕ → Known → Status → Type 0
-HasManyLines job word a status = (status ≡ TooManyLines) × ((engine : Colour) × (s : EngineGame) × IsGame (limits_of job) job.cycles job.engine job.settings word a.input engine s
+HasManyLines job word a status = (status ≡ TooManyLines) × ((engine : Colour) × (s : EngineGame) × IsGame (terms_of job) job.cycles job.engine job.settings word a.input engine s
     × IfSome a.input.left (λ bytes. (text : List ℕ) × IsSessionOf engine s bytes end.TooManyLines text))
 
 -- 10,000 lines were read of a session of the engine, which over the bytes ends so
@@ -80,8 +80,8 @@ IsUnrefused limit expression = ((fault : CalcFault) → ¬ IsCalcRefusal limit e
 -- Where nothing keeps a task from its text it is done, but for want of memory. A game and a session may also have come to 10,000 lines;
 -- a load that fails keeps the engine from nothing.
 abbrev pub IsComplete : Task → Job → Known → Status → Known → Type 0
-IsComplete (ask question word) job a status b = IsAnswerable question (limits_of job) job.settings word a b → IsDone status
-IsComplete (play word) job a status b = IsAnswerable (question_of_game job.cycles) (limits_of job) job.settings word a b → IsDone status ⊎ HasManyLines job word a status
+IsComplete (ask question word) job a status b = IsAnswerable question (terms_of job) job.settings word a b → IsDone status
+IsComplete (play word) job a status b = IsAnswerable (question_of_game job.cycles) (terms_of job) job.settings word a b → IsDone status ⊎ HasManyLines job word a status
 IsComplete (trial number) job a status b = ¬ Rose a.writes b.writes → IsDone status
 IsComplete (calc expression) job a status b = IsUnrefused job.parts expression → ¬ Rose a.writes b.writes → IsDone status
 IsComplete gtp job a status b = ¬ Rose a.input.reads b.input.reads → ¬ Rose a.writes b.writes → IsDone status ⊎ HasManyCommands job a status b

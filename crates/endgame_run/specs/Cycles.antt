@@ -9,7 +9,8 @@ use Rattle.gd_words.specs.declared.job.CycleQuestion.TheVariants.{Margin, Moves,
 use Rattle.region_cut.specs.Cut.{AreRegionsOfPlay}
 use Rattle.endgame_solver.specs.Regions.{region_at}
 use Rattle.endgame_solver.specs.Solved.{Solved}
-use Rattle.endgame_solver.specs.declared.limits.Limits.{Limits}
+use Rattle.endgame_solver.specs.Limits.{Limits}
+use Rattle.endgame_run.specs.declared.terms.GameTerms.{GameTerms}
 use Rattle.cycle_solver.specs.Begun.{Begun}
 use Rattle.cycle_solver.specs.CycleFaults.{AreRefused, AreSteadyWithin}
 use Rattle.cycle_solver.specs.declared.faults.CycleError.{CycleError}
@@ -27,9 +28,9 @@ use Rattle.endgame_run.specs.declared.status.Status.TheVariants as status
 abbrev pub most_captures : ℕ
 most_captures = 32
 
--- the game is opened by the position, and its regions of play are steady within the limits
-abbrev pub IsSteadyGame : Limits → Setup → Solved → Type 0
-IsSteadyGame limits setup game = Begun setup limits most_captures (Ok game)
+-- the game is opened by the position on these terms, and its regions of play are steady within the limits
+abbrev pub IsSteadyGame : GameTerms → Setup → Solved → Type 0
+IsSteadyGame terms setup game = Begun setup terms.tax terms.limits most_captures (Ok game)
 
 -- the text that answers a question about a game that opens with this komi in half-points
 abbrev pub IsGameText : CycleQuestion → ℤ → Solved → List ℕ → Type 0
@@ -38,10 +39,10 @@ IsGameText Values k game text = IsCycleValuesText game.state.board.columns game.
 IsGameText Margin k game text = IsCycleMarginText game.state k text
 IsGameText Moves k game text = IsCycleMovesText (name_on Letters game.state.board) game.state k text
 
--- the text that answers a question about a position, within the limits
-pub record IsCycleText (question : CycleQuestion) (limits : Limits) (setup : Setup) (text : List ℕ) : Type 0 where
+-- the text that answers a question about a position, on these terms
+pub record IsCycleText (question : CycleQuestion) (terms : GameTerms) (setup : Setup) (text : List ℕ) : Type 0 where
   pub game : Solved
-  pub steady : IsSteadyGame limits setup game
+  pub steady : IsSteadyGame terms setup game
   pub is : IsGameText question setup.komi_halves game text
 
 -- the status of a fault; want of memory is none
@@ -65,32 +66,32 @@ cycle_refusal_line limits columns (Captures p) = captures_line columns p
 cycle_refusal_line limits columns (Memory e) = []
 
 -- the regions of play of a position and a fault that keeps them from being steady within the limits, with its status and its line
-pub record IsCycleRefused (limits : Limits) (setup : Setup) (s : Status) (text : List ℕ) : Type 0 where
+pub record IsCycleRefused (terms : GameTerms) (setup : Setup) (s : Status) (text : List ℕ) : Type 0 where
   pub regions : List Region
   pub fault : CycleError
   pub are_regions : AreRegionsOfPlay setup.board regions
-  pub refused : AreRefused limits most_captures regions fault
+  pub refused : AreRefused terms.limits most_captures regions fault
   pub status : HasCycleStatus fault s
-  pub is : text ≡ cycle_refusal_line limits setup.board.columns fault
+  pub is : text ≡ cycle_refusal_line terms.limits setup.board.columns fault
 
 -- the regions of play of a position, all steady within the limits, where one of the values of an opening can't be shown, with the
 -- status and the line of the first of them
-pub record AreCycleUnshown (limits : Limits) (setup : Setup) (s : Status) (text : List ℕ) : Type 0 where
+pub record AreCycleUnshown (terms : GameTerms) (setup : Setup) (s : Status) (text : List ℕ) : Type 0 where
   pub regions : List Region
   pub point : ℕ
   pub are_regions : AreRegionsOfPlay setup.board regions
-  pub steady : AreSteadyWithin limits most_captures regions
+  pub steady : AreSteadyWithin terms.limits most_captures regions
   pub first : IsFirstCycleUnshown regions point
   pub status : s ≡ status.FormLimit
   pub is : text ≡ form_line setup.board.columns point
 
 -- a question about a position that isn't answered, and its text
-abbrev pub IsCycleQuestionRefused : CycleQuestion → Limits → Setup → Status → List ℕ → Type 0
-IsCycleQuestionRefused Values limits setup s text = IsCycleRefused limits setup s text ⊎ AreCycleUnshown limits setup s text
-IsCycleQuestionRefused question limits setup s text = IsCycleRefused limits setup s text
+abbrev pub IsCycleQuestionRefused : CycleQuestion → GameTerms → Setup → Status → List ℕ → Type 0
+IsCycleQuestionRefused Values terms setup s text = IsCycleRefused terms setup s text ⊎ AreCycleUnshown terms setup s text
+IsCycleQuestionRefused question terms setup s text = IsCycleRefused terms setup s text
 
 -- the regions of play are steady within the limits, and the values that a question asks for can all be shown
-abbrev pub IsSteadyFor : CycleQuestion → Limits → Setup → Type 0
-IsSteadyFor Values limits setup = (regions : List Region) × AreRegionsOfPlay setup.board regions × AreSteadyWithin limits most_captures regions
+abbrev pub IsSteadyFor : CycleQuestion → GameTerms → Setup → Type 0
+IsSteadyFor Values terms setup = (regions : List Region) × AreRegionsOfPlay setup.board regions × AreSteadyWithin terms.limits most_captures regions
     × ((k : ℕ) → k < length regions → HasShownValues (region_at regions k))
-IsSteadyFor question limits setup = (regions : List Region) × AreRegionsOfPlay setup.board regions × AreSteadyWithin limits most_captures regions
+IsSteadyFor question terms setup = (regions : List Region) × AreRegionsOfPlay setup.board regions × AreSteadyWithin terms.limits most_captures regions

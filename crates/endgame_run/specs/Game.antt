@@ -13,7 +13,7 @@ use Rattle.go_play.specs.Setup.{Setup}
 use Rattle.engine_player.specs.EngineGame.{EngineGame}
 use Rattle.engine_player.specs.Opening.{OpensGame}
 use Rattle.whole_rules.specs.FirstWinningMove.{IsWinner}
-use Rattle.endgame_solver.specs.declared.limits.Limits.{Limits}
+use Rattle.endgame_run.specs.declared.terms.GameTerms.{GameTerms}
 use Rattle.play_session.specs.declared.end.SessionEnd.{SessionEnd}
 use Rattle.play_session.specs.declared.end.SessionEnd.TheVariants as end
 use Rattle.play_session.specs.Laws.{EndsWonKeeping, IsLineIn, KeepsWin, TakesBackNoKo}
@@ -37,14 +37,14 @@ abbrev pub question_of_game : Bool → Question
 question_of_game false = Solve
 question_of_game true = WithCycles cycle.Solve
 
--- the position of the file of the word by the settings opens the game within the limits, with cycles admitted or without, and this is
+-- the position of the file of the word by the settings opens the game on these terms, with cycles admitted or without, and this is
 -- the engine's colour
-pub record IsGame (limits : Limits) (cycles : Bool) (given : Option Colour) (settings : Settings) (word : List ℕ) (i : Input) (engine : Colour)
+pub record IsGame (terms : GameTerms) (cycles : Bool) (given : Option Colour) (settings : Settings) (word : List ℕ) (i : Input) (engine : Colour)
     (s : EngineGame) : Type 0 where
   pub setup : Setup
   pub position : IsPositionOf (told_of i word) settings setup
   pub settled : IsSettled setup.board
-  pub playable : OpensGame cycles limits setup s
+  pub playable : OpensGame cycles terms.limits terms.tax setup s
   pub colour : IsEngine given setup engine
 
 -- where a session begins: with the game, and no line was read
@@ -97,17 +97,17 @@ pub record IsPlayRun (engine : Colour) (s : EngineGame) (left : Option (List ℕ
   pub written : IfSome left (λ bytes. IsGameWritten engine s bytes before now status)
 
 -- a game of the file of the word was begun and played
-abbrev pub IsPlayedGame : Limits → Bool → Option Colour → Settings → List ℕ → Known → Status → Known → Type 0
-IsPlayedGame limits cycles given settings word a status b = (engine : Colour) × (s : EngineGame) × IsGame limits cycles given settings word a.input engine s
+abbrev pub IsPlayedGame : GameTerms → Bool → Option Colour → Settings → List ℕ → Known → Status → Known → Type 0
+IsPlayedGame terms cycles given settings word a status b = (engine : Colour) × (s : EngineGame) × IsGame terms cycles given settings word a.input engine s
     × IsPlayRun engine s a.input.left a.input.reads b.input.reads a.writes b.writes a.holds b.holds status
 
 -- no game was begun: for want of memory, or since the file can't be solved
-abbrev pub IsUnplayed : Limits → Bool → Settings → List ℕ → Known → Status → Known → Type 0
-IsUnplayed limits cycles settings word a status b = Reports (λ s text. IsAnswer (question_of_game cycles) limits settings word a.input b.input s text × (s ≢ Done)) a.writes b.writes a.holds b.holds status
+abbrev pub IsUnplayed : GameTerms → Bool → Settings → List ℕ → Known → Status → Known → Type 0
+IsUnplayed terms cycles settings word a status b = Reports (λ s text. IsAnswer (question_of_game cycles) terms settings word a.input b.input s text × (s ≢ Done)) a.writes b.writes a.holds b.holds status
 
 -- what a game of the file of a word comes to
-pub record PlaysFile {H S K : Type 0} (o : Outside H S K) (limits : Limits) (cycles : Bool) (given : Option Colour) (settings : Settings) (word : List ℕ) (a : Desk H S K) (status : Status) (b : Desk H S K) : Type 0 where
-  pub outcome : (IsUnplayed limits cycles settings word (known o a) status (known o b) × (b.lines ≡ a.lines)) ⊎ IsPlayedGame limits cycles given settings word (known o a) status (known o b)
+pub record PlaysFile {H S K : Type 0} (o : Outside H S K) (terms : GameTerms) (cycles : Bool) (given : Option Colour) (settings : Settings) (word : List ℕ) (a : Desk H S K) (status : Status) (b : Desk H S K) : Type 0 where
+  pub outcome : (IsUnplayed terms cycles settings word (known o a) status (known o b) × (b.lines ≡ a.lines)) ⊎ IsPlayedGame terms cycles given settings word (known o a) status (known o b)
   pub taken : TakesAtMost most_of_game (o.sources.left a.lines) (o.sources.left b.lines)
   pub asked : o.shelves.asks a.shelf word b.shelf
 

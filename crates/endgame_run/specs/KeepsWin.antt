@@ -11,20 +11,20 @@ use Rattle.board_session.specs.GeneratedLaws.{WinIsKept}
 use Rattle.whole_rules.specs.FirstWinningMove.{IsWinner}
 use Rattle.engine_player.specs.EngineGame.{EngineGame}
 use Rattle.endgame_run.specs.Game.{IsGame, IsUnplayed, IsWonGame, WinsFromThere}
-use Rattle.endgame_run.specs.Limits.{limits_of}
+use Rattle.endgame_run.specs.Limits.{terms_of}
 use Rattle.endgame_run.specs.Run.{Runs}
 use Rattle.endgame_run.specs.declared.status.Status.{Status}
 
 -- a game of the file of the word was played; where the engine wins at its opening it keeps its win, and from a later state that it wins too
 abbrev pub PlaysWon : Job → List ℕ → Known → Known → Type 0
-PlaysWon job word a b = (engine : Colour) × (s : EngineGame) × IsGame (limits_of job) job.cycles job.engine job.settings word a.input engine s
+PlaysWon job word a b = (engine : Colour) × (s : EngineGame) × IsGame (terms_of job) job.cycles job.engine job.settings word a.input engine s
     × (IsWinner s.state engine → IfSome a.input.left (λ bytes. IsWonGame engine s bytes a.holds b.holds))
     × ((bytes : List ℕ) → WinsFromThere engine s bytes)
 
 -- No game was begun, or one in which the engine keeps what it has won; in each session of the engine, with a board of its own or without,
 -- and there with cycles admitted or without, a move keeps it.
 abbrev pub KeepsWin : Task → Job → Known → Status → Known → Type 0
-KeepsWin (play word) job a status b = IsUnplayed (limits_of job) job.cycles job.settings word a status b ⊎ PlaysWon job word a b
+KeepsWin (play word) job a status b = IsUnplayed (terms_of job) job.cycles job.settings word a status b ⊎ PlaysWon job word a b
 KeepsWin gtp job a status b = MoveKeepsWin × WinIsKept × WinIsKeptWithCycles
 KeepsWin task job a status b = ⊤
 

@@ -5,7 +5,7 @@ use Rattle.go_grid.specs.declared.grid.Colour.{Colour}
 use Rattle.go_grid.specs.Region.{Region}
 use Rattle.sgf_go.specs.declared.settings.Settings.{Settings}
 use Rattle.go_play.specs.Setup.{Setup}
-use Rattle.endgame_solver.specs.declared.limits.Limits.{Limits}
+use Rattle.endgame_run.specs.declared.terms.GameTerms.{GameTerms}
 use Rattle.endgame_solver.specs.declared.faults.SolveError.{SolveError}
 use Rattle.endgame_solver.specs.Faults.{AreRefused, AreSound}
 use Rattle.region_cut.specs.Cut.{AreRegionsOfPlay}
@@ -31,8 +31,8 @@ use Rattle.endgame_run.specs.Question.{IsFileAnswer, IsPositionAnswer}
 
 -- a question about a file has at most one status
 abbrev pub HasOneStatus : Type 0
-HasOneStatus = (question : Question) (limits : Limits) (file : List ℕ) (settings : Settings) (s t : Status) (a b : List ℕ)
-    → IsFileAnswer question limits file settings s a → IsFileAnswer question limits file settings t b → s ≡ t
+HasOneStatus = (question : Question) (terms : GameTerms) (file : List ℕ) (settings : Settings) (s t : Status) (a b : List ℕ)
+    → IsFileAnswer question terms file settings s a → IsFileAnswer question terms file settings t b → s ≡ t
 
 -- an expression has at most one status
 abbrev pub ExpressionHasOneStatus : Type 0
@@ -40,41 +40,41 @@ ExpressionHasOneStatus = (limit : ℕ) (expression : List ℕ) (s t : Status) (a
 
 -- a question about a position whose regions are all sound is answered, but for values that can't all be shown
 abbrev pub SolvesSound : Type 0
-SolvesSound = (question : Question) (limits : Limits) (setup : Setup) (regions : List Region) (s : Status) (text : List ℕ)
-    → TakesNoCycles question → question ≢ Values → AreRegionsOfPlay setup.board regions → AreSound limits regions → IsPositionAnswer question limits setup s text → s ≡ Done
+SolvesSound = (question : Question) (terms : GameTerms) (setup : Setup) (regions : List Region) (s : Status) (text : List ℕ)
+    → TakesNoCycles question → question ≢ Values → AreRegionsOfPlay setup.board regions → AreSound terms.limits regions → IsPositionAnswer question terms setup s text → s ≡ Done
 
 -- a position whose regions are all sound has its values shown, where each can be
 abbrev pub ShowsShown : Type 0
-ShowsShown = (limits : Limits) (setup : Setup) (regions : List Region) (s : Status) (text : List ℕ) → AreRegionsOfPlay setup.board regions → AreSound limits regions
-    → ((k : ℕ) → k < length regions → HasShownValue (region_at regions k)) → IsPositionAnswer Values limits setup s text → s ≡ Done
+ShowsShown = (terms : GameTerms) (setup : Setup) (regions : List Region) (s : Status) (text : List ℕ) → AreRegionsOfPlay setup.board regions → AreSound terms.limits regions
+    → ((k : ℕ) → k < length regions → HasShownValue (region_at regions k)) → IsPositionAnswer Values terms setup s text → s ≡ Done
 
 -- a position whose regions are all sound is refused for the first of them whose value can't be shown
 abbrev pub RefusesUnshown : Type 0
-RefusesUnshown = (limits : Limits) (setup : Setup) (regions : List Region) (p : ℕ) (s : Status) (text : List ℕ) → AreRegionsOfPlay setup.board regions → AreSound limits regions
-    → IsFirstUnshown regions p → IsPositionAnswer Values limits setup s text → s ≡ FormLimit
+RefusesUnshown = (terms : GameTerms) (setup : Setup) (regions : List Region) (p : ℕ) (s : Status) (text : List ℕ) → AreRegionsOfPlay setup.board regions → AreSound terms.limits regions
+    → IsFirstUnshown regions p → IsPositionAnswer Values terms setup s text → s ≡ FormLimit
 
 -- a position whose regions have a fault is refused with the status of that fault
 abbrev pub RefusesFaults : Type 0
-RefusesFaults = (question : Question) (limits : Limits) (setup : Setup) (regions : List Region) (fault : SolveError) (s t : Status) (text : List ℕ)
-    → TakesNoCycles question → NeedsRegions question → AreRegionsOfPlay setup.board regions → AreRefused limits regions fault → HasStatus fault t → IsPositionAnswer question limits setup s text → s ≡ t
+RefusesFaults = (question : Question) (terms : GameTerms) (setup : Setup) (regions : List Region) (fault : SolveError) (s t : Status) (text : List ℕ)
+    → TakesNoCycles question → NeedsRegions question → AreRegionsOfPlay setup.board regions → AreRefused terms.limits regions fault → HasStatus fault t → IsPositionAnswer question terms setup s text → s ≡ t
 
 -- a question about a position whose regions are all steady is answered, but for values that can't all be shown
 abbrev pub SolvesSteady : Type 0
-SolvesSteady = (question : CycleQuestion) (limits : Limits) (setup : Setup) (regions : List Region) (s : Status) (text : List ℕ)
-    → question ≢ cycle.Values → AreRegionsOfPlay setup.board regions → AreSteadyWithin limits most_captures regions → IsPositionAnswer (WithCycles question) limits setup s text
+SolvesSteady = (question : CycleQuestion) (terms : GameTerms) (setup : Setup) (regions : List Region) (s : Status) (text : List ℕ)
+    → question ≢ cycle.Values → AreRegionsOfPlay setup.board regions → AreSteadyWithin terms.limits most_captures regions → IsPositionAnswer (WithCycles question) terms setup s text
     → s ≡ Done
 
 -- a position whose regions are all steady has its values shown, where each can be, and is else refused for the first that can't
 pub record ShowsSteady : Type 0 where
-  pub shown : (limits : Limits) (setup : Setup) (regions : List Region) (s : Status) (text : List ℕ) → AreRegionsOfPlay setup.board regions → AreSteadyWithin limits most_captures regions
-      → ((k : ℕ) → k < length regions → HasShownValues (region_at regions k)) → IsPositionAnswer (WithCycles cycle.Values) limits setup s text → s ≡ Done
-  pub unshown : (limits : Limits) (setup : Setup) (regions : List Region) (p : ℕ) (s : Status) (text : List ℕ) → AreRegionsOfPlay setup.board regions
-      → AreSteadyWithin limits most_captures regions → IsFirstCycleUnshown regions p → IsPositionAnswer (WithCycles cycle.Values) limits setup s text → s ≡ FormLimit
+  pub shown : (terms : GameTerms) (setup : Setup) (regions : List Region) (s : Status) (text : List ℕ) → AreRegionsOfPlay setup.board regions → AreSteadyWithin terms.limits most_captures regions
+      → ((k : ℕ) → k < length regions → HasShownValues (region_at regions k)) → IsPositionAnswer (WithCycles cycle.Values) terms setup s text → s ≡ Done
+  pub unshown : (terms : GameTerms) (setup : Setup) (regions : List Region) (p : ℕ) (s : Status) (text : List ℕ) → AreRegionsOfPlay setup.board regions
+      → AreSteadyWithin terms.limits most_captures regions → IsFirstCycleUnshown regions p → IsPositionAnswer (WithCycles cycle.Values) terms setup s text → s ≡ FormLimit
 
 -- a position whose regions may have cycles, and have a fault, is refused with the status of that fault
 abbrev pub RefusesUnsteady : Type 0
-RefusesUnsteady = (question : CycleQuestion) (limits : Limits) (setup : Setup) (regions : List Region) (fault : CycleError) (s t : Status) (text : List ℕ)
-    → AreRegionsOfPlay setup.board regions → unsteady.AreRefused limits most_captures regions fault → HasCycleStatus fault t → IsPositionAnswer (WithCycles question) limits setup s text → s ≡ t
+RefusesUnsteady = (question : CycleQuestion) (terms : GameTerms) (setup : Setup) (regions : List Region) (fault : CycleError) (s t : Status) (text : List ℕ)
+    → AreRegionsOfPlay setup.board regions → unsteady.AreRefused terms.limits most_captures regions fault → HasCycleStatus fault t → IsPositionAnswer (WithCycles question) terms setup s text → s ≡ t
 
 -- a game over these bytes that no read and no write broke off has one status and one text
 abbrev pub HasOneGame : Type 0

@@ -9,7 +9,7 @@ use Rattle.gd_words.specs.Task.Task.{ask, calc, gtp, play, trial}
 use Rattle.endgame_run.specs.Calc.{IsCalc}
 use Rattle.endgame_run.specs.Engine.{IsEnginePlay, session_rules}
 use Rattle.endgame_run.specs.Game.{IsPlayedGame, question_of_game}
-use Rattle.endgame_run.specs.Limits.{limits_of}
+use Rattle.endgame_run.specs.Limits.{terms_of}
 use Rattle.endgame_run.specs.Question.{IsAnswer}
 use Rattle.endgame_run.specs.Run.{Runs, RunsWords}
 use Rattle.endgame_run.specs.Trial.{IsTrialAnswer}
@@ -19,15 +19,15 @@ use Rattle.endgame_run.specs.declared.status.Status.TheVariants.{CannotWrite, Do
 -- The statuses of a task that are decided at once, and their texts, by what is known of the input before and after: what keeps a file
 -- from being solved keeps it from being played. A session decides by its turns.
 abbrev pub IsDecided : Task → Job → Input → Input → Status → List ℕ → Type 0
-IsDecided (ask question word) job = IsAnswer question (limits_of job) job.settings word
-IsDecided (play word) job = λ i j s text. IsAnswer (question_of_game job.cycles) (limits_of job) job.settings word i j s text × (s ≢ Done)
+IsDecided (ask question word) job = IsAnswer question (terms_of job) job.settings word
+IsDecided (play word) job = λ i j s text. IsAnswer (question_of_game job.cycles) (terms_of job) job.settings word i j s text × (s ≢ Done)
 IsDecided (trial number) job = λ i j. IsTrialAnswer number
 IsDecided (calc expression) job = λ i j. IsCalc job.parts expression
 IsDecided gtp job = λ i j s text. ⊥
 
 -- a session was held: a game that was begun, or one of the engine
 abbrev pub HoldsSession : Task → Job → Known → Status → Known → Type 0
-HoldsSession (play word) job = IsPlayedGame (limits_of job) job.cycles job.engine job.settings word
+HoldsSession (play word) job = IsPlayedGame (terms_of job) job.cycles job.engine job.settings word
 HoldsSession gtp job = IsEnginePlay (session_rules job)
 HoldsSession task job = λ a status b. ⊥
 

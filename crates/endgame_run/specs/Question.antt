@@ -14,7 +14,8 @@ use Rattle.gd_words.specs.declared.job.Question.{Question}
 use Rattle.gd_words.specs.declared.job.Question.TheVariants.{Board, Line, Margin, Moves, Safe, Solve, Values, WithCycles}
 use Rattle.region_cut.specs.Cut.{AreRegionsOfPlay}
 use Rattle.endgame_solver.specs.Faults.{most_steps}
-use Rattle.endgame_solver.specs.declared.limits.Limits.{Limits}
+use Rattle.endgame_solver.specs.Limits.{Limits}
+use Rattle.endgame_run.specs.declared.terms.GameTerms.{GameTerms}
 use Rattle.report.specs.BoardText.{board_text}
 use Rattle.report.specs.Safety.{IsSafeText}
 use Rattle.endgame_run.specs.Analysis.{IsMargin, IsMoves, IsPlayLine}
@@ -28,48 +29,48 @@ use Rattle.endgame_run.specs.Written.{Reports}
 use Rattle.endgame_run.specs.declared.status.Status.{Status}
 use Rattle.endgame_run.specs.declared.status.Status.TheVariants.{BadFile, CannotRead, CaptureLimit, Cycle, Done, FormLimit, RegionLimit, TooLong}
 
--- the text that answers a question about a position, within the limits
-abbrev pub IsTextOf : Question → Limits → Setup → List ℕ → Type 0
-IsTextOf Solve limits setup text = IsSolved limits setup text
-IsTextOf Values limits setup text = IsValued limits setup text
-IsTextOf Margin limits setup text = IsMargin limits setup text
-IsTextOf Moves limits setup text = IsMoves limits setup text
-IsTextOf Line limits setup text = IsPlayLine limits setup text
-IsTextOf (WithCycles asked) limits setup text = IsCycleText asked limits setup text
-IsTextOf Safe limits setup text = IsSafeText setup.board text
-IsTextOf Board limits setup text = text ≡ board_text setup.board setup.side setup.komi_halves setup.black_prisoners setup.white_prisoners
+-- the text that answers a question about a position, on these terms
+abbrev pub IsTextOf : Question → GameTerms → Setup → List ℕ → Type 0
+IsTextOf Solve terms setup text = IsSolved terms setup text
+IsTextOf Values terms setup text = IsValued terms setup text
+IsTextOf Margin terms setup text = IsMargin terms setup text
+IsTextOf Moves terms setup text = IsMoves terms setup text
+IsTextOf Line terms setup text = IsPlayLine terms setup text
+IsTextOf (WithCycles asked) terms setup text = IsCycleText asked terms setup text
+IsTextOf Safe terms setup text = IsSafeText setup.board text
+IsTextOf Board terms setup text = text ≡ board_text setup.board setup.side setup.komi_halves setup.black_prisoners setup.white_prisoners
 
 -- a question about a position that isn't answered, and its text
-abbrev pub IsQuestionRefused : Question → Limits → Setup → Status → List ℕ → Type 0
-IsQuestionRefused Safe limits setup s text = ⊥
-IsQuestionRefused Board limits setup s text = ⊥
-IsQuestionRefused (WithCycles asked) limits setup s text = IsCycleQuestionRefused asked limits setup s text
-IsQuestionRefused Values limits setup s text = IsRefused limits setup s text ⊎ AreUnshown limits setup s text
-IsQuestionRefused question limits setup s text = IsRefused limits setup s text
+abbrev pub IsQuestionRefused : Question → GameTerms → Setup → Status → List ℕ → Type 0
+IsQuestionRefused Safe terms setup s text = ⊥
+IsQuestionRefused Board terms setup s text = ⊥
+IsQuestionRefused (WithCycles asked) terms setup s text = IsCycleQuestionRefused asked terms setup s text
+IsQuestionRefused Values terms setup s text = IsRefused terms setup s text ⊎ AreUnshown terms setup s text
+IsQuestionRefused question terms setup s text = IsRefused terms setup s text
 
 -- the status of a question about a position, and its text
-abbrev pub IsPositionAnswer : Question → Limits → Setup → Status → List ℕ → Type 0
-IsPositionAnswer question limits setup Done text = IsTextOf question limits setup text
-IsPositionAnswer question limits setup Cycle text = IsQuestionRefused question limits setup Cycle text
-IsPositionAnswer question limits setup RegionLimit text = IsQuestionRefused question limits setup RegionLimit text
-IsPositionAnswer question limits setup FormLimit text = IsQuestionRefused question limits setup FormLimit text
-IsPositionAnswer question limits setup CaptureLimit text = IsQuestionRefused question limits setup CaptureLimit text
-IsPositionAnswer question limits setup s text = ⊥
+abbrev pub IsPositionAnswer : Question → GameTerms → Setup → Status → List ℕ → Type 0
+IsPositionAnswer question terms setup Done text = IsTextOf question terms setup text
+IsPositionAnswer question terms setup Cycle text = IsQuestionRefused question terms setup Cycle text
+IsPositionAnswer question terms setup RegionLimit text = IsQuestionRefused question terms setup RegionLimit text
+IsPositionAnswer question terms setup FormLimit text = IsQuestionRefused question terms setup FormLimit text
+IsPositionAnswer question terms setup CaptureLimit text = IsQuestionRefused question terms setup CaptureLimit text
+IsPositionAnswer question terms setup s text = ⊥
 
 -- The status of a question about a file that is not too long, and its text: no two of these statuses can hold at once.
-abbrev pub IsFileAnswer : Question → Limits → List ℕ → Settings → Status → List ℕ → Type 0
-IsFileAnswer question limits file settings (BadFile f) text = Reads file settings (Err f) × IsFaultText file f text
-IsFileAnswer question limits file settings s text = (setup : Setup) × Reads file settings (Ok setup) × IsPositionAnswer question limits setup s text
+abbrev pub IsFileAnswer : Question → GameTerms → List ℕ → Settings → Status → List ℕ → Type 0
+IsFileAnswer question terms file settings (BadFile f) text = Reads file settings (Err f) × IsFaultText file f text
+IsFileAnswer question terms file settings s text = (setup : Setup) × Reads file settings (Ok setup) × IsPositionAnswer question terms setup s text
 
 -- The status by what is told of the file and by the counts of faults of the object that holds it, and its text.
-abbrev pub IsVerdict : Question → Limits → Told → ℕ → ℕ → Settings → Status → List ℕ → Type 0
-IsVerdict question limits told before now settings CannotRead text = ((told ≡ absent) ⊎ Rose before now) × (text ≡ codes "fault cannot read\n")
-IsVerdict question limits told before now settings TooLong text = IsLonger MOST_BYTES told × (text ≡ codes "fault too long\n")
-IsVerdict question limits told before now settings s text = (file : List ℕ) × IsTold told file × HasFewBytes file × IsFileAnswer question limits file settings s text
+abbrev pub IsVerdict : Question → GameTerms → Told → ℕ → ℕ → Settings → Status → List ℕ → Type 0
+IsVerdict question terms told before now settings CannotRead text = ((told ≡ absent) ⊎ Rose before now) × (text ≡ codes "fault cannot read\n")
+IsVerdict question terms told before now settings TooLong text = IsLonger MOST_BYTES told × (text ≡ codes "fault too long\n")
+IsVerdict question terms told before now settings s text = (file : List ℕ) × IsTold told file × HasFewBytes file × IsFileAnswer question terms file settings s text
 
 -- The status of a question about the file of a word, by what is known of the input before and after its reading, and its text.
-abbrev pub IsAnswer : Question → Limits → Settings → List ℕ → Input → Input → Status → List ℕ → Type 0
-IsAnswer question limits settings word i j s text = IsVerdict question limits (told_of i word) (count_of i word) (count_of j word) settings s text
+abbrev pub IsAnswer : Question → GameTerms → Settings → List ℕ → Input → Input → Status → List ℕ → Type 0
+IsAnswer question terms settings word i j s text = IsVerdict question terms (told_of i word) (count_of i word) (count_of j word) settings s text
 
 -- how many steps a question about a position takes at most: for each of its regions of play the limit, or 3 to its points where that
 -- is less; and none where it needs no regions
@@ -83,9 +84,9 @@ AreToldSteps question limits told settings before now = (now ≡ before)
     ⊎ ((file : List ℕ) × (setup : Setup) × IsTold told file × Reads file settings (Ok setup) × AreStepsFor question limits setup before now)
 
 -- what the run of a question about the file of a word comes to
-pub record AnswersQuestion {H S K : Type 0} (o : Outside H S K) (question : Question) (limits : Limits) (settings : Settings) (word : List ℕ) (a : Desk H S K) (status : Status) (b : Desk H S K)
+pub record AnswersQuestion {H S K : Type 0} (o : Outside H S K) (question : Question) (terms : GameTerms) (settings : Settings) (word : List ℕ) (a : Desk H S K) (status : Status) (b : Desk H S K)
     : Type 0 where
-  pub written : Reports (IsAnswer question limits settings word (known o a).input (known o b).input)
+  pub written : Reports (IsAnswer question terms settings word (known o a).input (known o b).input)
       (o.sinks.faults a.out) (o.sinks.faults b.out) (o.sinks.holds a.out) (o.sinks.holds b.out) status
   pub reads : ReadsFile o.shelves o.sources word a.shelf a.lines b.shelf b.lines
   pub at_end : status ≡ Done → word ≡ dash → o.sources.left b.lines ≡ ended (o.sources.left a.lines)

@@ -8,7 +8,8 @@ use Rattle.fault_words.specs.FaultWords.{cycle_words, points_words, positions_wo
 use Rattle.go_play.specs.Setup.{Setup}
 use Rattle.region_cut.specs.Cut.{AreRegionsOfPlay}
 use Rattle.endgame_solver.specs.Faults.{AreRefused}
-use Rattle.endgame_solver.specs.declared.limits.Limits.{Limits}
+use Rattle.endgame_solver.specs.Limits.{Limits}
+use Rattle.endgame_run.specs.declared.terms.GameTerms.{GameTerms}
 use Rattle.endgame_solver.specs.declared.faults.SolveError.{SolveError}
 use Rattle.endgame_solver.specs.declared.faults.SolveError.TheVariants.{Points, Positions, Cycle, Form, Memory}
 use Rattle.endgame_run.specs.declared.status.Status.{Status}
@@ -47,10 +48,10 @@ refusal_line limits columns (Form p) = form_line columns p
 refusal_line limits columns (Memory e) = []
 
 -- the regions of play of a position and a fault that keeps it from being solved within the limits, with its status and its line
-pub record IsRefused (limits : Limits) (setup : Setup) (s : Status) (text : List ℕ) : Type 0 where
+pub record IsRefused (terms : GameTerms) (setup : Setup) (s : Status) (text : List ℕ) : Type 0 where
   pub regions : List Region
   pub fault : SolveError
   pub are_regions : AreRegionsOfPlay setup.board regions
-  pub refused : AreRefused limits regions fault
+  pub refused : AreRefused terms.limits regions fault
   pub status : HasStatus fault s
-  pub is : text ≡ refusal_line limits setup.board.columns fault
+  pub is : text ≡ refusal_line terms.limits setup.board.columns fault

@@ -8,7 +8,7 @@ use Rattle.endgame_run.specs.Calc.{RunsCalc}
 use Rattle.endgame_run.specs.Engine.{AreSessionSteps, RunsEngine, session_rules}
 use Rattle.endgame_run.specs.File.{told_of}
 use Rattle.endgame_run.specs.Game.{PlaysFile, question_of_game}
-use Rattle.endgame_run.specs.Limits.{limits_of}
+use Rattle.endgame_run.specs.Limits.{limits_of, terms_of}
 use Rattle.endgame_run.specs.Question.{AnswersQuestion, AreToldSteps}
 use Rattle.endgame_run.specs.Trial.{AreTrialSteps, RunsTrial}
 use Rattle.endgame_run.specs.Written.{Finishes}
@@ -18,8 +18,8 @@ use Rattle.endgame_run.specs.declared.status.Status.TheVariants.{Usage}
 module _ {H S K : Type 0} (o : Outside H S K) where
   -- what a run for a task comes to, with the settings and the limits of its job
   abbrev pub RunsTask : Task → Job → Desk H S K → Status → Desk H S K → Type 0
-  RunsTask (ask question word) job = AnswersQuestion o question (limits_of job) job.settings word
-  RunsTask (play word) job = PlaysFile o (limits_of job) job.cycles job.engine job.settings word
+  RunsTask (ask question word) job = AnswersQuestion o question (terms_of job) job.settings word
+  RunsTask (play word) job = PlaysFile o (terms_of job) job.cycles job.engine job.settings word
   RunsTask (trial number) job = RunsTrial o number
   RunsTask (calc expression) job = RunsCalc o job.parts expression
   RunsTask gtp job = RunsEngine o (session_rules job)

@@ -18,7 +18,7 @@ use Rattle.whole_rules.specs.WholeGame.{Whole}
 use Rattle.whole_rules.specs.declared.states.Move.{Move}
 use Rattle.endgame_solver.specs.Faults.{AreSound}
 use Rattle.endgame_solver.specs.Solved.{OpensAs}
-use Rattle.endgame_solver.specs.declared.limits.Limits.{Limits}
+use Rattle.endgame_run.specs.declared.terms.GameTerms.{GameTerms}
 use Rattle.cycle_solver.specs.Winner.{TellsWinner}
 use Rattle.report.specs.CycleSolution.{winner_or_none}
 use Rattle.report.specs.Solution.{AreNumbersOfPositions, move_line, solve_text}
@@ -27,16 +27,16 @@ use Rattle.endgame_run.specs.Line.{HasOnlyLine}
 use Rattle.endgame_run.specs.Solution.{IsSolution}
 
 -- the regions of play of a position, all sound within the limits, the number of positions of each, and the solution, in its text
-pub record IsSolved (limits : Limits) (setup : Setup) (text : List ℕ) : Type 0 where
+pub record IsSolved (terms : GameTerms) (setup : Setup) (text : List ℕ) : Type 0 where
   pub regions : List Region
   pub numbers : List ℕ
   pub state : Whole
   pub winner : Colour
   pub move : Option Move
   pub are_regions : AreRegionsOfPlay setup.board regions
-  pub sound : AreSound limits regions
+  pub sound : AreSound terms.limits regions
   pub counted : AreNumbersOfPositions regions numbers
-  pub solution : IsSolution setup limits.tax state winner move
+  pub solution : IsSolution setup terms.tax state winner move
   pub is : text ≡ solve_text state regions numbers winner move
 
 -- the question is who wins, by which move

@@ -11,7 +11,7 @@ use Rattle.gd_words.specs.Task.{NeedsRegions, Task}
 use Rattle.gd_words.specs.Task.Task.{ask, calc, play, trial}
 use Rattle.region_cut.specs.Cut.{AreRegionsOfPlay}
 use Rattle.endgame_solver.specs.Faults.{most_steps}
-use Rattle.endgame_solver.specs.declared.limits.Limits.{Limits}
+use Rattle.endgame_solver.specs.Limits.{Limits}
 use Rattle.endgame_run.specs.Engine.{AreSessionSteps, session_rules}
 use Rattle.endgame_run.specs.File.{told_of}
 use Rattle.endgame_run.specs.Limits.{limits_of}

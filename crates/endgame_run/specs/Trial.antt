@@ -4,7 +4,7 @@ use Rattle.desk_io.specs.Desk.{Desk, Outside}
 use Rattle.go_grid.specs.declared.grid.Colour.TheVariants.{Black}
 use Rattle.board_gen.specs.Trial.{IsTrialBoard}
 use Rattle.go_play.specs.Setup.{Setup}
-use Rattle.endgame_solver.specs.declared.limits.Limits.{Limits}
+use Rattle.endgame_solver.specs.Limits.{Limits}
 use Rattle.endgame_solver.specs.Solved.{Solved, OpensAs}
 use Rattle.endgame_solver.specs.Faults.{most_steps}
 use Rattle.go_grid.specs.Region.{Region}
@@ -16,7 +16,7 @@ use Rattle.report.specs.Trial.{IsTrialText}
 
 -- the limits of a trial, which are those of a file without options
 abbrev pub trial_limits : Limits
-trial_limits = record { positions = 100000; parts = 500; tax = false }
+trial_limits = record { positions = 100000; parts = 500 }
 
 -- the position that the number draws: its board with Black to move, no prisoners and no komi
 pub record IsTrialPosition (number : ℕ) (setup : Setup) : Type 0 where

@@ -8,7 +8,7 @@ use Rattle.gd_words.specs.Task.Task.{ask, gtp, play}
 use Rattle.endgame_run.specs.Engine.{AsksForLines, session_rules}
 use Rattle.endgame_run.specs.File.{TakesAtMost, dash, most_of_engine, most_of_file, most_of_game}
 use Rattle.endgame_run.specs.Game.{IsPlayedGame}
-use Rattle.endgame_run.specs.Limits.{limits_of}
+use Rattle.endgame_run.specs.Limits.{terms_of}
 use Rattle.endgame_run.specs.Run.{Runs}
 use Rattle.endgame_run.specs.declared.status.Status.{Status}
 use Rattle.endgame_run.specs.declared.status.Status.TheVariants.{Done}
@@ -28,7 +28,7 @@ most_of task = 0
 module _ {H S K : Type 0} (o : Outside H S K) where
   -- what a task does to the source: it is unread where a file of the shelf is asked about and where none is, and where no game is begun
   abbrev pub TouchesLines : Task → Job → Desk H S K → Status → Desk H S K → Type 0
-  TouchesLines (play word) job a status b = (b.lines ≡ a.lines) ⊎ IsPlayedGame (limits_of job) job.cycles job.engine job.settings word (known o a) status (known o b)
+  TouchesLines (play word) job a status b = (b.lines ≡ a.lines) ⊎ IsPlayedGame (terms_of job) job.cycles job.engine job.settings word (known o a) status (known o b)
   TouchesLines gtp job a status b = ⊤
   TouchesLines (ask question word) job a status b = word ≢ dash → b.lines ≡ a.lines
   TouchesLines task job a status b = b.lines ≡ a.lines

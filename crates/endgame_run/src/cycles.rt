@@ -16,6 +16,7 @@ use crate::question::Report;
 use crate::refusal::{points_text, positions_text};
 use crate::solving::unshown;
 use crate::status::Status;
+use crate::terms::GameTerms;
 use cycle_solver::{CycleError, CycleGame};
 use endgame_solver::Limits;
 use engine_player::MOST_CAPTURES;
@@ -23,7 +24,6 @@ use fault_words::Naming;
 use game_text::Text;
 use gd_words::CycleQuestion;
 use go_grid::Size;
-use local_graph::MOST_POSITIONS;
 use local_play::Steps;
 use report::{cycle_margin_text, cycle_moves_text, cycle_solve_text, cycle_values_text};
 use sgf_go::Setup;
@@ -49,7 +49,7 @@ pub(crate) fn refused_with_cycles(
         }),
         CycleError::Positions(lowest) => Ok(Report {
             status: Status::RegionLimit,
-            text: Text::from(positions_text(alloc, size, lowest, limits.positions)?),
+            text: Text::from(positions_text(alloc, size, lowest, limits.positions())?),
         }),
         CycleError::Form(lowest) => Ok(Report {
             status: Status::FormLimit,
@@ -102,29 +102,28 @@ fn report_game(
     })
 }
 
-/// The report on a question about a position whose regions are steady for it within the limits.
+/// The report on a question about a position whose regions are steady for it, on these terms.
 pub(crate) fn solve_with_cycles<L: Ledger>(
     alloc: Global,
     question: CycleQuestion,
     setup: &Setup,
-    limits: &Limits,
+    terms: &GameTerms,
     steps: &mut Steps<L>,
 ) -> Result<Report, AllocError>
-    requires taxed { MayTax limits.now.tax setup.now.board }
-    requires positions { limits.now.positions ≤ MOST_POSITIONS }
+    requires taxed { MayTax terms.now.tax setup.now.board }
     ensures answer { IfOk result (λ report. IsPositionAnswer
-        (WithCycles question) limits.now setup.now report.status report.text) }
+        (WithCycles question) terms.now setup.now report.status report.text) }
     ensures steps { (regions : List Region) → AreRegionsOfPlay setup.now.board regions
-        → steps.new ≤ steps.old + most_steps limits.now regions }
+        → steps.new ≤ steps.old + most_steps terms.now.limits regions }
 {
-    match CycleGame::begin(alloc, setup, limits, MOST_CAPTURES, steps) {
+    match CycleGame::begin(alloc, setup, terms.tax, &terms.limits, MOST_CAPTURES, steps) {
         Ok(mut game) => {
             let report = report_game(alloc, question, &mut game, setup.komi_halves());
             drop(game);
             report
         }
         Err(fault) => {
-            let report = refused_with_cycles(alloc, setup.board().size(), limits, fault)?;
+            let report = refused_with_cycles(alloc, setup.board().size(), &terms.limits, fault)?;
             Ok(report)
         }
     }

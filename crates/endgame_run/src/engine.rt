@@ -10,7 +10,6 @@ use crate::status::Status;
 use board_session::{BoardEngine, BoardLimits};
 use desk_io::{Shelf, Sink, Source};
 use gtp_engine::{Engine, EngineLimits, GtpEnd};
-use local_graph::MOST_POSITIONS;
 use local_play::Steps;
 use std::alloc::Global;
 use std::sync::ledger::Ledger;
@@ -39,7 +38,6 @@ pub(crate) fn run_gtp<H: Shelf, S: Source, K: Sink, L: Ledger>(
     out: &mut K,
     steps: &mut Steps<L>,
 ) -> Status
-    requires modest { limits.positions ≤ MOST_POSITIONS }
     ensures ran { RunsEngine (outside H.Shelf S.Source K.Sink) (engine_rules limits)
         (desk shelf.old lines.old out.old) result (desk shelf.new lines.new out.new) }
     ensures steps { AreSessionSteps (engine_rules limits)
@@ -66,7 +64,6 @@ pub(crate) fn run_board<H: Shelf, S: Source, K: Sink, L: Ledger>(
     out: &mut K,
     steps: &mut Steps<L>,
 ) -> Status
-    requires modest { limits.positions ≤ MOST_POSITIONS }
     ensures ran { RunsEngine (outside H.Shelf S.Source K.Sink) (board_rules limits)
         (desk shelf.old lines.old out.old) result (desk shelf.new lines.new out.new) }
     ensures steps { AreSessionSteps (board_rules limits)

@@ -15,7 +15,6 @@ use crate::opening::begin;
 use crate::question::{Found, Match, Opened};
 use crate::status::Status;
 use desk_io::{Shelf, Sink, Source};
-use local_graph::MOST_POSITIONS;
 use local_play::Steps;
 use play_session::{MOST_TURNS, Session, SessionEnd};
 use sgf_go::Settings;
@@ -32,12 +31,11 @@ fn open_game<H: Shelf, S: Source, L: Ledger>(
     steps: &mut Steps<L>,
 ) -> Result<Opened, AllocError>
     requires ranges { HasRanges settings.now }
-    requires modest { game.now.limits.positions ≤ MOST_POSITIONS }
-    requires untaxed { game.now.limits.tax ≡ true → settings.now.territory ≡ false }
-    ensures opened { IfOk result (IsOpened game.now.limits game.now.cycles game.now.engine
+    requires untaxed { game.now.terms.tax ≡ true → settings.now.territory ≡ false }
+    ensures opened { IfOk result (IsOpened game.now.terms game.now.cycles game.now.engine
         settings.now game.now.word.now (input_of H.Shelf S.Source shelf.old lines.old)
         (input_of H.Shelf S.Source shelf.new lines.new)) }
-    ensures steps { AreToldSteps (question_of_game game.now.cycles) game.now.limits
+    ensures steps { AreToldSteps (question_of_game game.now.cycles) game.now.terms.limits
         (told_of (input_of H.Shelf S.Source shelf.old lines.old) game.now.word.now)
         settings.now steps.old steps.new }
     ensures reads { ReadsFile H.Shelf S.Source game.now.word.now
@@ -82,16 +80,15 @@ pub(crate) fn run_game<H: Shelf, S: Source, K: Sink, L: Ledger>(
     steps: &mut Steps<L>,
 ) -> Status
     requires ranges { HasRanges settings.now }
-    requires modest { game.now.limits.positions ≤ MOST_POSITIONS }
-    requires untaxed { game.now.limits.tax ≡ true → settings.now.territory ≡ false }
+    requires untaxed { game.now.terms.tax ≡ true → settings.now.territory ≡ false }
     requires apart { game.now.word.now ≢ dash }
-    ensures ran { PlaysFile (outside H.Shelf S.Source K.Sink) game.now.limits game.now.cycles
+    ensures ran { PlaysFile (outside H.Shelf S.Source K.Sink) game.now.terms game.now.cycles
         game.now.engine settings.now game.now.word.now
         (desk shelf.old lines.old out.old) result (desk shelf.new lines.new out.new) }
     ensures later { IsLater
         (known (outside H.Shelf S.Source K.Sink) (desk shelf.old lines.old out.old))
         (known (outside H.Shelf S.Source K.Sink) (desk shelf.new lines.new out.new)) }
-    ensures steps { AreToldSteps (question_of_game game.now.cycles) game.now.limits
+    ensures steps { AreToldSteps (question_of_game game.now.cycles) game.now.terms.limits
         (told_of (input_of H.Shelf S.Source shelf.old lines.old) game.now.word.now)
         settings.now steps.old steps.new }
 {

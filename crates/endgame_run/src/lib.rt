@@ -18,6 +18,7 @@ mod refusal;
 mod run_question;
 mod solving;
 mod status;
+mod terms;
 mod top;
 mod trial;
 

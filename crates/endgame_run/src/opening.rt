@@ -11,10 +11,10 @@ ghost use Rattle.endgame_run.specs.inner.Top.{IsBegun};
 use crate::cycles::refused_with_cycles;
 use crate::question::{Match, Opened};
 use crate::solving::refused;
-use endgame_solver::{Limits, Solved};
+use crate::terms::GameTerms;
+use endgame_solver::Solved;
 use engine_player::{CyclePlayer, MOST_CAPTURES, Player};
 use go_grid::Colour;
-use local_graph::MOST_POSITIONS;
 use local_play::Steps;
 use play_session::Session;
 use sgf_go::Setup;
@@ -30,28 +30,27 @@ fn session_of(player: Player, engine: Option<Colour>, setup: &Setup) -> Session
     Session::new(player, engine.unwrap_or(setup.side()))
 }
 
-/// The session of a position that is solved within the limits.
+/// The session of a position that is solved on these terms.
 fn begin_plain<L: Ledger>(
     alloc: Global,
     setup: &Setup,
-    limits: &Limits,
+    terms: &GameTerms,
     engine: Option<Colour>,
     steps: &mut Steps<L>,
 ) -> Result<Opened, AllocError>
-    requires taxed { MayTax limits.now.tax setup.now.board }
-    requires positions { limits.now.positions ≤ MOST_POSITIONS }
-    ensures begun { IfOk result (IsBegun limits.now false engine setup.now) }
+    requires taxed { MayTax terms.now.tax setup.now.board }
+    ensures begun { IfOk result (IsBegun terms.now false engine setup.now) }
     ensures steps { (regions : List Region) → AreRegionsOfPlay setup.now.board regions
-        → steps.new ≤ steps.old + most_steps limits.now regions }
+        → steps.new ≤ steps.old + most_steps terms.now.limits regions }
 {
     let size = setup.board().size();
-    match Solved::begin(alloc, setup, limits, steps) {
+    match Solved::begin(alloc, setup, terms.tax, &terms.limits, steps) {
         Ok(solved) => {
             let player = Player::without_cycles(solved);
             Ok(Opened::Game(session_of(player, engine, setup)))
         }
         Err(fault) => {
-            let report = refused(alloc, size, limits, fault)?;
+            let report = refused(alloc, size, &terms.limits, fault)?;
             Ok(Opened::Fault(report))
         }
     }
@@ -61,45 +60,43 @@ fn begin_plain<L: Ledger>(
 fn begin_with_cycles<L: Ledger>(
     alloc: Global,
     setup: &Setup,
-    limits: &Limits,
+    terms: &GameTerms,
     engine: Option<Colour>,
     steps: &mut Steps<L>,
 ) -> Result<Opened, AllocError>
-    requires taxed { MayTax limits.now.tax setup.now.board }
-    requires positions { limits.now.positions ≤ MOST_POSITIONS }
-    ensures begun { IfOk result (IsBegun limits.now true engine setup.now) }
+    requires taxed { MayTax terms.now.tax setup.now.board }
+    ensures begun { IfOk result (IsBegun terms.now true engine setup.now) }
     ensures steps { (regions : List Region) → AreRegionsOfPlay setup.now.board regions
-        → steps.new ≤ steps.old + most_steps limits.now regions }
+        → steps.new ≤ steps.old + most_steps terms.now.limits regions }
 {
     let size = setup.board().size();
-    match CyclePlayer::begin(alloc, setup, limits, MOST_CAPTURES, steps) {
+    match CyclePlayer::begin(alloc, setup, terms.tax, &terms.limits, MOST_CAPTURES, steps) {
         Ok(game) => {
             let player = Player::with_cycles(game);
             Ok(Opened::Game(session_of(player, engine, setup)))
         }
         Err(fault) => {
-            let report = refused_with_cycles(alloc, size, limits, fault)?;
+            let report = refused_with_cycles(alloc, size, &terms.limits, fault)?;
             Ok(Opened::Fault(report))
         }
     }
 }
 
-/// The session of a position within the limits of a game, with cycles admitted or without.
+/// The session of a position on the terms of a game, with cycles admitted or without.
 pub(crate) fn begin<L: Ledger>(
     alloc: Global,
     setup: &Setup,
     game: &Match<'_>,
     steps: &mut Steps<L>,
 ) -> Result<Opened, AllocError>
-    requires taxed { MayTax game.now.limits.tax setup.now.board }
-    requires positions { game.now.limits.positions ≤ MOST_POSITIONS }
-    ensures begun { IfOk result (IsBegun game.now.limits game.now.cycles game.now.engine
+    requires taxed { MayTax game.now.terms.tax setup.now.board }
+    ensures begun { IfOk result (IsBegun game.now.terms game.now.cycles game.now.engine
         setup.now) }
     ensures steps { (regions : List Region) → AreRegionsOfPlay setup.now.board regions
-        → steps.new ≤ steps.old + most_steps game.now.limits regions }
+        → steps.new ≤ steps.old + most_steps game.now.terms.limits regions }
 {
     if game.cycles {
-        return begin_with_cycles(alloc, setup, &game.limits, game.engine, steps);
+        return begin_with_cycles(alloc, setup, &game.terms, game.engine, steps);
     }
-    begin_plain(alloc, setup, &game.limits, game.engine, steps)
+    begin_plain(alloc, setup, &game.terms, game.engine, steps)
 }

@@ -1,8 +1,8 @@
 //! What is asked about a file, and what is answered.
 
 use crate::status::Status;
+use crate::terms::GameTerms;
 use board_session::BoardLimits;
-use endgame_solver::Limits;
 use game_text::Text;
 use gd_words::Question;
 use go_grid::Colour;
@@ -10,18 +10,18 @@ use gtp_engine::EngineLimits;
 use play_session::Session;
 use sgf_go::Setup;
 
-/// A question about the position of the file of a word. Regions and values are within the limits.
+/// A question about the position of the file of a word, which is opened on these terms.
 #[derive(Clone, Copy)]
 pub(crate) struct Inquiry<'a> {
     pub question: Question,
-    pub limits: Limits,
+    pub terms: GameTerms,
     pub word: &'a str,
 }
 
-/// A game of the file of a word within the limits, and the engine's colour, where it isn't the side to move.
+/// A game of the file of a word on these terms, and the engine's colour, where it isn't the side to move.
 #[derive(Clone, Copy)]
 pub(crate) struct Match<'a> {
-    pub limits: Limits,
+    pub terms: GameTerms,
     /// Whether regions may have cycles.
     pub cycles: bool,
     pub engine: Option<Colour>,

@@ -14,10 +14,9 @@ use crate::finding::find_position;
 use crate::question::{Found, Inquiry, Report};
 use crate::solving::solve;
 use crate::status::Status;
+use crate::terms::GameTerms;
 use desk_io::{Shelf, Sink, Source};
-use endgame_solver::Limits;
 use gd_words::Question;
-use local_graph::MOST_POSITIONS;
 use local_play::Steps;
 use report::{Terms, board_text, safe_text};
 use sgf_go::{Settings, Setup};
@@ -25,7 +24,7 @@ use std::alloc::{AllocError, Global};
 use std::sync::ledger::Ledger;
 
 /// What a position has beside its board.
-fn terms(setup: &Setup) -> Terms
+fn beside_board(setup: &Setup) -> Terms
     ensures { result ≡ record {
       side = setup.now.side;
       komi_halves = setup.now.komi_halves;
@@ -41,19 +40,18 @@ fn terms(setup: &Setup) -> Terms
     }
 }
 
-/// The report on a question about a position, within the limits.
+/// The report on a question about a position, on these terms.
 fn report_on_position<L: Ledger>(
     alloc: Global,
     question: Question,
-    limits: &Limits,
+    terms: &GameTerms,
     setup: &Setup,
     steps: &mut Steps<L>,
 ) -> Result<Report, AllocError>
-    requires taxed { MayTax limits.now.tax setup.now.board }
-    requires modest { limits.now.positions ≤ MOST_POSITIONS }
+    requires taxed { MayTax terms.now.tax setup.now.board }
     ensures answer { IfOk result (λ report. IsPositionAnswer
-        question limits.now setup.now report.status report.text) }
-    ensures steps { AreStepsFor question limits.now setup.now steps.old steps.new }
+        question terms.now setup.now report.status report.text) }
+    ensures steps { AreStepsFor question terms.now.limits setup.now steps.old steps.new }
 {
     match question {
         Question::Safe => Ok(Report {
@@ -62,11 +60,11 @@ fn report_on_position<L: Ledger>(
         }),
         Question::Board => Ok(Report {
             status: Status::Done,
-            text: board_text(alloc, setup.board(), terms(setup))?,
+            text: board_text(alloc, setup.board(), beside_board(setup))?,
         }),
         Question::Solve | Question::Values | Question::Margin | Question::Moves | Question::Line =>
-            solve(alloc, question, setup, limits, steps),
-        Question::WithCycles(asked) => solve_with_cycles(alloc, asked, setup, limits, steps),
+            solve(alloc, question, setup, terms, steps),
+        Question::WithCycles(asked) => solve_with_cycles(alloc, asked, setup, terms, steps),
     }
 }
 
@@ -80,12 +78,11 @@ fn answer<H: Shelf, S: Source, L: Ledger>(
     steps: &mut Steps<L>,
 ) -> Result<Report, AllocError>
     requires ranges { HasRanges settings.now }
-    requires modest { inquiry.now.limits.positions ≤ MOST_POSITIONS }
-    requires untaxed { inquiry.now.limits.tax ≡ true → settings.now.territory ≡ false }
-    ensures answer { IfOk result (λ report. IsAnswer inquiry.now.question inquiry.now.limits
+    requires untaxed { inquiry.now.terms.tax ≡ true → settings.now.territory ≡ false }
+    ensures answer { IfOk result (λ report. IsAnswer inquiry.now.question inquiry.now.terms
         settings.now inquiry.now.word.now (input_of H.Shelf S.Source shelf.old lines.old)
         (input_of H.Shelf S.Source shelf.new lines.new) report.status report.text) }
-    ensures steps { AreToldSteps inquiry.now.question inquiry.now.limits
+    ensures steps { AreToldSteps inquiry.now.question inquiry.now.terms.limits
         (told_of (input_of H.Shelf S.Source shelf.old lines.old) inquiry.now.word.now)
         settings.now steps.old steps.new }
     ensures reads { ReadsFile H.Shelf S.Source inquiry.now.word.now
@@ -98,7 +95,7 @@ fn answer<H: Shelf, S: Source, L: Ledger>(
             let report = report_on_position(
                 alloc,
                 inquiry.question,
-                &inquiry.limits,
+                &inquiry.terms,
                 &setup,
                 steps,
             )?;
@@ -119,15 +116,14 @@ pub(crate) fn run_question<H: Shelf, S: Source, K: Sink, L: Ledger>(
     steps: &mut Steps<L>,
 ) -> Status
     requires ranges { HasRanges settings.now }
-    requires modest { inquiry.now.limits.positions ≤ MOST_POSITIONS }
-    requires untaxed { inquiry.now.limits.tax ≡ true → settings.now.territory ≡ false }
+    requires untaxed { inquiry.now.terms.tax ≡ true → settings.now.territory ≡ false }
     ensures ran { AnswersQuestion (outside H.Shelf S.Source K.Sink) inquiry.now.question
-        inquiry.now.limits settings.now inquiry.now.word.now
+        inquiry.now.terms settings.now inquiry.now.word.now
         (desk shelf.old lines.old out.old) result (desk shelf.new lines.new out.new) }
     ensures later { IsLater
         (known (outside H.Shelf S.Source K.Sink) (desk shelf.old lines.old out.old))
         (known (outside H.Shelf S.Source K.Sink) (desk shelf.new lines.new out.new)) }
-    ensures steps { AreToldSteps inquiry.now.question inquiry.now.limits
+    ensures steps { AreToldSteps inquiry.now.question inquiry.now.terms.limits
         (told_of (input_of H.Shelf S.Source shelf.old lines.old) inquiry.now.word.now)
         settings.now steps.old steps.new }
 {

@@ -17,12 +17,12 @@ use crate::faults::point_text;
 use crate::question::Report;
 use crate::refusal::{cycle_text, points_text, positions_text};
 use crate::status::Status;
+use crate::terms::GameTerms;
 use endgame_solver::{Limits, SolveError, Solved};
 use fault_words::Naming;
 use game_text::Text;
 use gd_words::Question;
 use go_grid::Size;
-use local_graph::MOST_POSITIONS;
 use local_play::Steps;
 use report::{ValuesError, line_text, margin_text, moves_text, solve_text, values_text};
 use sgf_go::Setup;
@@ -48,7 +48,7 @@ pub(crate) fn refused(
         }),
         SolveError::Positions(lowest) => Ok(Report {
             status: Status::RegionLimit,
-            text: Text::from(positions_text(alloc, size, lowest, limits.positions)?),
+            text: Text::from(positions_text(alloc, size, lowest, limits.positions())?),
         }),
         SolveError::Cycle(lowest, moves, back) => Ok(Report {
             status: Status::Cycle,
@@ -123,31 +123,30 @@ fn report_game(
     })
 }
 
-/// The report on a question about a position that is solved for it within the limits.
+/// The report on a question about a position that is solved for it on these terms.
 pub(crate) fn solve<L: Ledger>(
     alloc: Global,
     question: Question,
     setup: &Setup,
-    limits: &Limits,
+    terms: &GameTerms,
     steps: &mut Steps<L>,
 ) -> Result<Report, AllocError>
     requires regions { NeedsRegions question }
     requires plain { TakesNoCycles question }
-    requires taxed { MayTax limits.now.tax setup.now.board }
-    requires positions { limits.now.positions ≤ MOST_POSITIONS }
+    requires taxed { MayTax terms.now.tax setup.now.board }
     ensures answer { IfOk result (λ report. IsPositionAnswer
-        question limits.now setup.now report.status report.text) }
+        question terms.now setup.now report.status report.text) }
     ensures steps { (regions : List Region) → AreRegionsOfPlay setup.now.board regions
-        → steps.new ≤ steps.old + most_steps limits.now regions }
+        → steps.new ≤ steps.old + most_steps terms.now.limits regions }
 {
-    match Solved::begin(alloc, setup, limits, steps) {
+    match Solved::begin(alloc, setup, terms.tax, &terms.limits, steps) {
         Ok(mut solved) => {
             let report = report_game(alloc, question, &mut solved, setup.komi_halves());
             drop(solved);
             report
         }
         Err(fault) => {
-            let report = refused(alloc, setup.board().size(), limits, fault)?;
+            let report = refused(alloc, setup.board().size(), &terms.limits, fault)?;
             Ok(report)
         }
     }

@@ -6,7 +6,7 @@ ghost use Rattle.gd_words.specs.Bounds.{IsInRanges};
 ghost use Rattle.gd_words.specs.Job.{IsJob};
 ghost use Rattle.gd_words.specs.Task.Task.{gtp};
 ghost use Rattle.gd_words.specs.Viewed.{texts, viewed};
-ghost use Rattle.endgame_run.specs.Limits.{engine_limits, limits_of};
+ghost use Rattle.endgame_run.specs.Limits.{engine_limits, limits_of, terms_of};
 ghost use Rattle.endgame_run.specs.Run.{AreSteps, AreTaskSteps, Runs, RunsWords};
 ghost use Rattle.endgame_run.specs.Solve.{AskToSolve, WritesMove, WritesWinner};
 ghost use Rattle.endgame_run.specs.inner.Top.{IsAsked};
@@ -18,6 +18,7 @@ use crate::game::run_game;
 use crate::question::{Asked, Inquiry, Line, Match};
 use crate::run_question::run_question;
 use crate::status::Status;
+use crate::terms::GameTerms;
 use crate::trial::run_trial;
 use board_session::BoardLimits;
 use desk_io::{Shelf, Sink, Source};
@@ -28,24 +29,36 @@ use local_play::Steps;
 use std::alloc::Global;
 use std::sync::ledger::Ledger;
 
-/// The limits of a job, and whether there is a tax.
+/// The limits of a job.
 fn limits(job: &Job<'_>) -> Limits
+    requires { IsInRanges (viewed job.now) }
     ensures { result ≡ limits_of (viewed job.now) }
 {
-    Limits {
-        positions: job.positions,
-        parts: job.parts,
+    match Limits::new(job.positions, job.parts) {
+        Some(limits) => limits,
+        // The numbers of a job are in range.
+        None => unreachable!(),
+    }
+}
+
+/// The limits of a job, and whether there is a tax.
+fn terms(job: &Job<'_>) -> GameTerms
+    requires { IsInRanges (viewed job.now) }
+    ensures { result ≡ terms_of (viewed job.now) }
+{
+    GameTerms {
+        limits: limits(job),
         tax: job.tax,
     }
 }
 
 /// The limits of an engine, and whether points are declared.
 fn limits_of_engine(job: &Job<'_>) -> EngineLimits
+    requires { IsInRanges (viewed job.now) }
     ensures { result ≡ engine_limits (viewed job.now) }
 {
     EngineLimits {
-        positions: job.positions,
-        parts: job.parts,
+        game: limits(job),
         territory: job.settings.territory,
         cycles: job.cycles,
     }
@@ -54,15 +67,13 @@ fn limits_of_engine(job: &Job<'_>) -> EngineLimits
 /// The limits of an engine that keeps a board.
 fn limits_on_board(limits: EngineLimits) -> BoardLimits
     ensures { result ≡ record {
-      positions = limits.positions;
-      parts = limits.parts;
+      game = limits.game;
       territory = limits.territory;
       cycles = limits.cycles;
     } }
 {
     BoardLimits {
-        positions: limits.positions,
-        parts: limits.parts,
+        game: limits.game,
         territory: limits.territory,
         cycles: limits.cycles,
     }
@@ -70,7 +81,8 @@ fn limits_on_board(limits: EngineLimits) -> BoardLimits
 
 /// The engine of a job.
 fn engine_asked<'a>(job: &Job<'a>) -> Asked<'a>
-    requires { (viewed job.now).task ≡ gtp }
+    requires bounds { IsInRanges (viewed job.now) }
+    requires engine { (viewed job.now).task ≡ gtp }
     ensures { IsAsked (viewed job.now) result }
 {
     let limits = limits_of_engine(job);
@@ -80,21 +92,23 @@ fn engine_asked<'a>(job: &Job<'a>) -> Asked<'a>
     Asked::Gtp(limits)
 }
 
-/// A question about the file of a word, within the limits of a job.
+/// A question about the file of a word, on the terms of a job.
 fn inquiry<'a>(job: &Job<'_>, question: Question, word: &'a str) -> Inquiry<'a>
+    requires { IsInRanges (viewed job.now) }
     ensures question { result.question ≡ question }
-    ensures limits { result.limits ≡ limits_of (viewed job.now) }
+    ensures terms { result.terms ≡ terms_of (viewed job.now) }
     ensures word { result.word.now ≡ word.now }
 {
     Inquiry {
         question,
-        limits: limits(job),
+        terms: terms(job),
         word,
     }
 }
 
 /// What a job asks for.
 fn asked<'a>(job: &Job<'a>) -> Asked<'a>
+    requires { IsInRanges (viewed job.now) }
     ensures { IsAsked (viewed job.now) result }
 {
     match job.command {
@@ -109,7 +123,7 @@ fn asked<'a>(job: &Job<'a>) -> Asked<'a>
             Asked::Answer(inquiry(job, Question::WithCycles(question), word))
         }
         Command::Play(word) => Asked::Game(Match {
-            limits: limits(job),
+            terms: terms(job),
             cycles: job.cycles,
             engine: job.engine,
             word,

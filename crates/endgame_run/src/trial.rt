@@ -1,7 +1,7 @@
 //! The boards of `trial`.
 
-ghost use Rattle.std.specs.Prelude.{◌≤◌, IfOk};
-ghost use Rattle.endgame_run.specs.Trial.{AreTrialSteps, IsTrial, IsTrialAnswer};
+ghost use Rattle.std.specs.Prelude.{◌≡◌, ◌≤◌, IfOk};
+ghost use Rattle.endgame_run.specs.Trial.{AreTrialSteps, IsTrial, IsTrialAnswer, trial_limits};
 ghost use Rattle.endgame_run.specs.inner.Trial.{IsWantOfMemory};
 ghost use Rattle.endgame_run.specs.Written.{Reports};
 
@@ -16,11 +16,15 @@ use std::alloc::{AllocError, Global};
 use std::sync::ledger::Ledger;
 
 /// The limits of each board.
-const LIMITS: Limits = Limits {
-    positions: 100_000,
-    parts: 500,
-    tax: false,
-};
+fn trial_limits() -> Limits
+    ensures { result ≡ trial_limits }
+{
+    match Limits::new(100_000, 500) {
+        Some(limits) => limits,
+        // The numbers are in range.
+        None => unreachable!(),
+    }
+}
 
 /// The refusal of memory that the fault is.
 fn want_of_memory(fault: SolveError) -> AllocError
@@ -42,7 +46,8 @@ fn text_of<L: Ledger>(alloc: Global, number: u32, steps: &mut Steps<L>) -> Resul
     ensures steps { AreTrialSteps number steps.old steps.new }
 {
     let setup = board_gen::make(alloc, number)?;
-    match Solved::begin(alloc, &setup, &LIMITS, steps) {
+    let limits = trial_limits();
+    match Solved::begin(alloc, &setup, false, &limits, steps) {
         Ok(mut solved) => {
             let text = trial_text(alloc, number, &mut solved);
             drop(solved);

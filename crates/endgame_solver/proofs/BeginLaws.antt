@@ -20,7 +20,7 @@ use Rattle.benson_life.specs.Life.{IsAlive}
 use Rattle.go_play.specs.Setup.{Setup}
 use Rattle.endgame_solver.specs.Faults.{AreRefused, most_steps, AreSound, IsSound}
 use Rattle.endgame_solver.specs.Solved.{Begun}
-use Rattle.endgame_solver.specs.declared.limits.Limits.{Limits}
+use Rattle.endgame_solver.specs.Limits.{Limits}
 use Rattle.endgame_solver.specs.declared.faults.SolveError.{SolveError}
 use Rattle.endgame_solver.specs.declared.faults.SolveError.TheVariants.{Points, Positions, Cycle, Form, Memory}
 use Rattle.local_graph.specs.declared.graph.TheConstants.{MOST_POSITIONS}
@@ -163,12 +163,12 @@ pub steps_within : (limits : Limits) (start : ℕ) {g : Board} {rs lent : List R
     → (ss : List Region) → AreRegionsOfPlay g ss → now ≤ start + most_steps limits ss
 steps_within limits start {g} {rs} {lent} {now} a is few ss b = subst (λ xs. now ≤ start + most_steps limits xs) (is ∙ one_regions g rs ss a b) few
 
-pub refusal_begun : (setup : Setup) (limits : Limits) {regions lent : List Region} → AreRegionsOfPlay setup.board regions → lent ≡ regions
+pub refusal_begun : (setup : Setup) (tax : Bool) (limits : Limits) {regions lent : List Region} → AreRegionsOfPlay setup.board regions → lent ≡ regions
     → (e : SolveError)
-    → AreRefused limits lent e → Begun setup limits (Err e)
-refusal_begun setup limits {regions} are is e h = at e (subst (λ rs. AreRefused limits rs e) is h)
+    → AreRefused limits lent e → Begun setup tax limits (Err e)
+refusal_begun setup tax limits {regions} are is e h = at e (subst (λ rs. AreRefused limits rs e) is h)
   where
-    at : (e : SolveError) → AreRefused limits regions e → Begun setup limits (Err e)
+    at : (e : SolveError) → AreRefused limits regions e → Begun setup tax limits (Err e)
     at (Points p n) h = (regions, are, h)
     at (Positions p) h = (regions, are, h)
     at (Cycle p names back) h = (regions, are, h)

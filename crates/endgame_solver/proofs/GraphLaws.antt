@@ -50,7 +50,7 @@ use Rattle.game_canon.proofs.NumberPartLaws.{within-bounds}
 use Rattle.endgame_solver.specs.ShapeValues.{game_after}
 use Rattle.endgame_solver.specs.inner.Sharing.{AreTurnedValues}
 use Rattle.endgame_solver.specs.inner.Solving.{IsGraphWithin, IsSolvedBy}
-use Rattle.endgame_solver.specs.declared.limits.Limits.{Limits}
+use Rattle.endgame_solver.specs.Limits.{Limits}
 use Rattle.std.proofs.lemmas.List.Quantifiers.{all_pairs_push}
 use Rattle.endgame_solver.proofs.CarriedLaws.{Matched, cycle_matched, matched_back, matched_one, move_matched, reach_matched, trees_over}
 

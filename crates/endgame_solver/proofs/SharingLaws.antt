@@ -14,7 +14,7 @@ use Rattle.endgame_solver.specs.inner.Held.{ids_at, most_units}
 use Rattle.endgame_solver.specs.Regions.{no_region, region_at}
 use Rattle.endgame_solver.specs.inner.Regions.{no_graph, graph_at}
 use Rattle.endgame_solver.specs.inner.Solving.{AreSolvedBelow, IsRefusalOf, IsSolvedBy}
-use Rattle.endgame_solver.specs.declared.limits.Limits.{Limits}
+use Rattle.endgame_solver.specs.Limits.{Limits}
 use Rattle.endgame_solver.specs.declared.faults.SolveError.{SolveError}
 use Rattle.endgame_solver.specs.declared.faults.SolveError.TheVariants.{Points, Positions, Cycle, Form, Memory}
 use Rattle.std.proofs.Math.Seq.{take-length}

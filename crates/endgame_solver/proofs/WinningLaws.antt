@@ -29,7 +29,7 @@ use Rattle.endgame_solver.specs.SumGame.{AreModest, balance}
 use Rattle.endgame_solver.specs.inner.Held.{AreSolvedAt, HasRoom, IsFirstStone, IsStoneEdge, ids_at, place_at}
 use Rattle.endgame_solver.specs.inner.Sharing.{AreSharedBy}
 use Rattle.endgame_solver.specs.inner.Views.{HasGraph, HasValue, IsHeldInBook, ShowsAll, ShowsPlaces, own, seen_graph, seen_ids, view_at}
-use Rattle.endgame_solver.specs.declared.limits.Limits.{Limits}
+use Rattle.endgame_solver.specs.Limits.{Limits}
 use Rattle.endgame_solver.specs.declared.view_book.Book.{Book}
 use Rattle.endgame_solver.specs.declared.views.View.{View}
 use Rattle.endgame_solver.proofs.BookkeepingLaws.{own-less, paid-in}

@@ -5,6 +5,7 @@ pub mod Regions
 pub mod Decomposition
 pub mod ShapeValues
 pub mod Bookkeeping
+pub mod Limits
 pub mod Faults
 pub mod Thresholds
 pub mod PlayLine

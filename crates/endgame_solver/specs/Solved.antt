@@ -18,7 +18,7 @@ use Rattle.local_value.specs.PositionTree.{IsValueOf}
 use Rattle.endgame_solver.specs.Regions.{region_at}
 use Rattle.endgame_solver.specs.SumGame.{balance}
 use Rattle.endgame_solver.specs.Faults.{AreSound, AreRefused}
-use Rattle.endgame_solver.specs.declared.limits.Limits.{Limits}
+use Rattle.endgame_solver.specs.Limits.{Limits}
 use Rattle.endgame_solver.specs.declared.faults.SolveError.{SolveError}
 use Rattle.endgame_solver.specs.declared.faults.SolveError.TheVariants.{Memory}
 use Rattle.endgame_solver.specs.declared.solved.RegionReport.{RegionReport}
@@ -33,18 +33,18 @@ pub record Solved : Type 0 where
 abbrev pub OpensAs : Setup → Bool → Whole → Type 0
 OpensAs setup tax s = IsOpening setup.board setup.black_prisoners setup.white_prisoners setup.komi_halves setup.side tax s
 
--- the regions of play of a position are all sound within the limits, and the state opens it
-pub record IsPlayable (limits : Limits) (setup : Setup) (s : Whole) : Type 0 where
+-- the regions of play of a position are all sound within the limits, and the state opens it, with or without a tax
+pub record IsPlayable (limits : Limits) (tax : Bool) (setup : Setup) (s : Whole) : Type 0 where
   pub regions : List Region
   pub are_regions : AreRegionsOfPlay setup.board regions
   pub sound : AreSound limits regions
-  pub opening : OpensAs setup limits.tax s
+  pub opening : OpensAs setup tax s
 
--- the game that the position opens, all of whose regions are sound, or why there is none
-abbrev pub Begun : Setup → Limits → Result Solved SolveError → Type 0
-Begun setup limits (Ok game) = OpensAs setup limits.tax game.state × AreRegionsOfPlay setup.board game.regions × AreSound limits game.regions
-Begun setup limits (Err (Memory e)) = Unit {0}
-Begun setup limits (Err fault) = (regions : List Region) × AreRegionsOfPlay setup.board regions × AreRefused limits regions fault
+-- the game that the position opens, with or without a tax, all of whose regions are sound, or why there is none
+abbrev pub Begun : Setup → Bool → Limits → Result Solved SolveError → Type 0
+Begun setup tax limits (Ok game) = OpensAs setup tax game.state × AreRegionsOfPlay setup.board game.regions × AreSound limits game.regions
+Begun setup tax limits (Err (Memory e)) = Unit {0}
+Begun setup tax limits (Err fault) = (regions : List Region) × AreRegionsOfPlay setup.board regions × AreRefused limits regions fault
 
 -- the side to move has a move
 abbrev pub HasMove : Whole → Type 0

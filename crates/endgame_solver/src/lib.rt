@@ -25,7 +25,7 @@ pub use cycle_names::CycleNames;
 pub use faults::SolveError;
 pub use known::{Known, first_known};
 pub use laws::{decomposition_laws, line_laws, shape_laws, threshold_laws};
-pub use limits::Limits;
+pub use limits::{Limits, MOST_PARTS, limit_laws};
 pub use regions_of_play::{Opening, first_large, opening_of};
 pub use solved::{RegionReport, Solved};
 pub use thresholds::{margin_of, raised};

@@ -14,7 +14,7 @@ use crate::view_book::{Book, Kind, add_own, add_view, first_kind, kind_of};
 use game_canon::FormError;
 use game_store::Store;
 use go_grid::Region;
-use local_graph::{CompactGraph, CycleMove, GraphError, MOST_POSITIONS, build_compact};
+use local_graph::{CompactGraph, CycleMove, GraphError, build_compact};
 use local_play::Steps;
 use local_value::{Values, value_compact};
 use std::alloc::{AllocError, Global};
@@ -51,7 +51,7 @@ fn graph_of<L: Ledger>(
         (3 ^ length region.now.points) }
 {
     let lowest = region.points[0];
-    match build_compact(alloc, region, limits.positions, steps) {
+    match build_compact(alloc, region, limits.positions(), steps) {
         Ok(graph) => Ok(graph),
         Err(GraphError::Points(points)) => Err(SolveError::Points(lowest, points)),
         Err(GraphError::Positions) => Err(SolveError::Positions(lowest)),
@@ -73,13 +73,12 @@ fn values_of(
 ) -> Result<Values, SolveError>
     requires points { length region.now.points ≤ 32 }
     requires graph { IsGraphWithin limits.now.positions region.now graph.now }
-    requires limit { limits.now.positions ≤ MOST_POSITIONS }
     ensures solved { IfOk result (λ ids. IsSolvedBy limits.now region.now graph.now store.new ids) }
     ensures refusal { IfErr result (λ e. IsRefusalOf limits.now region.now e) }
     ensures kept { Extends store.old store.new }
 {
     let lowest = region.points[0];
-    match value_compact(alloc, graph, store, limits.parts) {
+    match value_compact(alloc, graph, store, limits.parts()) {
         Ok(values) => Ok(values),
         Err(FormError::Parts) => Err(SolveError::Form(lowest)),
         Err(FormError::Bounds) => Err(SolveError::Form(lowest)),
@@ -96,7 +95,6 @@ fn solve_region<L: Ledger>(
     steps: &mut Steps<L>,
 ) -> Result<(CompactGraph, Values), SolveError>
     requires points { length region.now.points ≤ 32 }
-    requires limit { limits.now.positions ≤ MOST_POSITIONS }
     ensures solved { IfOk result (λ x. IsSolvedBy limits.now region.now x.0 store.new x.1) }
     ensures refusal { IfErr result (λ e. IsRefusalOf limits.now region.now e) }
     ensures kept { Extends store.old store.new }
@@ -121,7 +119,6 @@ fn solve_next<L: Ledger>(
 ) -> Result<(), SolveError>
     requires number { number < length regions.now }
     requires small { AreSmallRegions regions.now }
-    requires limit { limits.now.positions ≤ MOST_POSITIONS }
     requires before { SharesBelow limits.now regions.now book.old.graphs.items
         book.old.values.items book.old.views.items
         kinds.old.items store.old number }
@@ -155,7 +152,6 @@ pub(crate) fn solve_regions<L: Ledger>(
     steps: &mut Steps<L>,
 ) -> Result<Book, SolveError>
     requires small { AreSmallRegions regions.now }
-    requires limit { limits.now.positions ≤ MOST_POSITIONS }
     ensures solved { IfOk result (λ book. AreSharedBy limits.now regions.now book store.new) }
     ensures refusal { IfErr result (λ e. AreRefused limits.now regions.now e) }
     ensures kept { IfOk result (λ x. Extends store.old store.new) }

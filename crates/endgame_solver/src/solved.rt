@@ -39,7 +39,6 @@ use dyadic_num::Dyadic;
 use game_store::{GameId, Store};
 use go_grid::{Colour, Point, Region};
 use go_play::Setup;
-use local_graph::MOST_POSITIONS;
 use local_play::Steps;
 use std::alloc::{AllocError, Global};
 use std::marker::Model;
@@ -96,22 +95,23 @@ impl Model for Solved {
 }
 
 impl Solved {
-    /// The game that a position opens, with a tax where the limits say it, for which nothing may be declared: its regions, each with its graph and the
-    /// values of all its positions. Or the first region of more than 32 points; or else the first with too many positions,
+    /// The game that a position opens, with or without a tax, for which nothing may be declared: its regions, each with
+    /// its graph and the values of all its positions. Or the first region of more than 32 points; or else the first with too many positions,
     /// a cycle or a value without a form. It takes at most one step for each position of each region.
     pub fn begin<L: Ledger>(
         alloc: Global,
         setup: &Setup,
+        tax: bool,
         limits: &Limits,
         steps: &mut Steps<L>,
     ) -> Result<Solved, SolveError>
-        requires taxed { MayTax limits.now.tax setup.now.board }
-        requires positions { limits.now.positions ≤ MOST_POSITIONS }
-        ensures begun { Begun setup.now limits.now result }
+        requires taxed { MayTax tax setup.now.board }
+        ensures begun { Begun setup.now tax limits.now result }
         ensures steps { (regions : List Region) → AreRegionsOfPlay setup.now.board regions
             → steps.new ≤ steps.old + most_steps limits.now regions }
     {
-        let opening = opening_of(alloc, setup, limits.tax)?;
+        let _most = limits.positions();
+        let opening = opening_of(alloc, setup, tax)?;
         let found = solve_openings(alloc, &opening.regions, limits, steps)?;
         let known = found.known;
         let start = found.start;

@@ -15,7 +15,6 @@ use crate::regions_of_play::{Start, first_large, start_of};
 use crate::view_book::Book;
 use game_store::Store;
 use go_grid::Region;
-use local_graph::MOST_POSITIONS;
 use local_play::Steps;
 use std::alloc::Global;
 use std::sync::ledger::Ledger;
@@ -44,7 +43,6 @@ fn hold_regions<L: Ledger>(
     steps: &mut Steps<L>,
 ) -> Result<Held, SolveError>
     requires small { AreSmallRegions regions.now }
-    requires limit { limits.now.positions ≤ MOST_POSITIONS }
     ensures solved { IfOk result (λ x. AreSharedBy limits.now regions.now x.book store.new) }
     ensures places { IfOk result
         (λ x. x.start.places.items ≡ replicate (length x.book.views.items) 0) }
@@ -68,7 +66,6 @@ pub(crate) fn solve_openings<L: Ledger>(
     limits: &Limits,
     steps: &mut Steps<L>,
 ) -> Result<SolvedRegions, SolveError>
-    requires { limits.now.positions ≤ MOST_POSITIONS }
     ensures solved { IfOk result (λ x. AreSharedBy limits.now regions.now x.book x.known.store) }
     ensures fits { IfOk result (λ x. Fits x.known.store x.known.search) }
     ensures places { IfOk result

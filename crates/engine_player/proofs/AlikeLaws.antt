@@ -13,7 +13,7 @@ use Rattle.whole_rules.specs.declared.states.Move.TheVariants.{Stone, Spend, Hal
 use Rattle.whole_rules.specs.declared.states.MoveError.{MoveError}
 use Rattle.whole_rules.proofs.MoveLaws.{refused_not_legal}
 use Rattle.whole_rules.proofs.OpeningLaws.{beside_komi}
-use Rattle.endgame_solver.specs.declared.limits.Limits.{Limits}
+use Rattle.endgame_solver.specs.Limits.{Limits}
 use Rattle.endgame_solver.specs.Faults.{AreSound}
 use Rattle.endgame_solver.specs.Solved.{Chooses, HasMove, OpensAs}
 use Rattle.endgame_solver.proofs.BeginLaws.{one_regions}
@@ -258,19 +258,19 @@ alike_opened tax setup p q a b kept = record {
   };
 }
 
-pub opens_alike : (cycles : Bool) (limits : Limits) (setup : Setup) (p q : EngineGame) → OpensGame cycles limits setup p → OpensGame cycles limits setup q → AreAlike p q
-opens_alike false limits setup p q (a, none) (b, nor) = alike_opened limits.tax setup p q a.opening b.opening (none ∙ sym nor)
-opens_alike true limits setup p q (k, (a, cut, steady, black, white, moves), is) (l, (b, also_cut, also_steady, also_black, also_white, also_moves), also_is) =
+pub opens_alike : (cycles : Bool) (limits : Limits) (tax : Bool) (setup : Setup) (p q : EngineGame) → OpensGame cycles limits tax setup p → OpensGame cycles limits tax setup q → AreAlike p q
+opens_alike false limits tax setup p q (a, none) (b, nor) = alike_opened tax setup p q a.opening b.opening (none ∙ sym nor)
+opens_alike true limits tax setup p q (k, (a, cut, steady, black, white, moves), is) (l, (b, also_cut, also_steady, also_black, also_white, also_moves), also_is) =
     let regions = one_regions setup.board k.regions l.regions cut also_cut in
     let same : k ≡ l = λ i. record { regions = regions i; black = (black ∙ sym also_black) i; white = (white ∙ sym also_white) i; moves = (moves ∙ sym also_moves) i } in
-    alike_opened limits.tax setup p q a b (is ∙ ap Some same ∙ sym also_is)
+    alike_opened tax setup p q a b (is ∙ ap Some same ∙ sym also_is)
 
 -- a position opens a game or none
-pub opens_or_not : (cycles : Bool) (limits : Limits) (setup : Setup) (p : EngineGame) → OpensGame cycles limits setup p → OpensNone cycles limits setup → ⊥
-opens_or_not false limits setup p (a, none) (regions, cut, unsound) = unsound (subst (AreSound limits) (one_regions setup.board a.regions regions a.are_regions cut) a.sound)
-opens_or_not true limits setup p (k, (a, cut, steady, black, white, moves), is) (regions, also_cut, unsteady) =
+pub opens_or_not : (cycles : Bool) (limits : Limits) (tax : Bool) (setup : Setup) (p : EngineGame) → OpensGame cycles limits tax setup p → OpensNone cycles limits setup → ⊥
+opens_or_not false limits tax setup p (a, none) (regions, cut, unsound) = unsound (subst (AreSound limits) (one_regions setup.board a.regions regions a.are_regions cut) a.sound)
+opens_or_not true limits tax setup p (k, (a, cut, steady, black, white, moves), is) (regions, also_cut, unsteady) =
     unsteady (subst (AreSteadyWithin limits MOST_CAPTURES) (one_regions setup.board k.regions regions cut also_cut) steady)
 
-pub opened_board : (cycles : Bool) (limits : Limits) (setup : Setup) (p : EngineGame) → OpensGame cycles limits setup p → p.state.board ≡ setup.board
-opened_board false limits setup p (a, none) = a.opening.board
-opened_board true limits setup p (k, (a, cut, steady, black, white, moves), is) = a.board
+pub opened_board : (cycles : Bool) (limits : Limits) (tax : Bool) (setup : Setup) (p : EngineGame) → OpensGame cycles limits tax setup p → p.state.board ≡ setup.board
+opened_board false limits tax setup p (a, none) = a.opening.board
+opened_board true limits tax setup p (k, (a, cut, steady, black, white, moves), is) = a.board

@@ -1,5 +1,5 @@
 -- What a game with kos holds is fit from its opening on, behind each move, and where points are taken out of a purse.
-use Rattle.std.proofs.Common.{◌≡◌, ◌≢◌, ℕ, ◌+◌, ◌*◌, ◌^◌, ◌≤◌, List, [], ◌++◌, take, drop, length, length-append, cond, arith, refl, sym, ap, ◌∙◌, subst, Option, Some, None, Ok, Err, Result, IfOk, OnErr, true, false}
+use Rattle.std.proofs.Common.{◌≡◌, ◌≢◌, ℕ, ◌+◌, ◌*◌, ◌^◌, ◌≤◌, List, [], ◌++◌, take, drop, length, length-append, cond, arith, refl, sym, ap, ◌∙◌, subst, Option, Some, None, Ok, Err, Result, IfOk, OnErr, Bool, true, false}
 use Rattle.std.proofs.lemmas.List.{length-drop, length-take}
 use Rattle.go_grid.specs.declared.grid.Colour.{Colour}
 use Rattle.go_grid.specs.declared.grid.Colour.TheVariants.{Black, White}
@@ -12,7 +12,7 @@ use Rattle.whole_rules.specs.Purses.{taken_out}
 use Rattle.whole_rules.specs.WholeGame.{Applies, IsMove, Whole}
 use Rattle.whole_rules.proofs.PlainLaws.{move_turn}
 use Rattle.endgame_solver.specs.Solved.{Solved}
-use Rattle.endgame_solver.specs.declared.limits.Limits.{Limits}
+use Rattle.endgame_solver.specs.Limits.{Limits}
 use Rattle.endgame_solver.proofs.BeginLaws.{purse_few}
 use Rattle.endgame_solver.proofs.BookkeepingLaws.{out-less}
 use Rattle.whole_budgets.specs.EnginePlay.{Serves}
@@ -40,17 +40,17 @@ both_serve : (game : Solved) (black white : Kept) (moves : ℕ) → Serves game.
 both_serve game black white moves for_black for_white Black = for_black
 both_serve game black white moves for_black for_white White = for_white
 
-pub begin_fit : (setup : Setup) (limits : Limits) (most : ℕ) (game : Solved) (black white : Kept) (scratch : List ℕ) → IsFit setup → length setup.board.cells ≤ 625
-    → Begun setup limits most (Ok game) → black.is_kept ≡ false → white.is_kept ≡ false → HaveBudgets game.regions black white scratch
+pub begin_fit : (setup : Setup) (tax : Bool) (limits : Limits) (most : ℕ) (game : Solved) (black white : Kept) (scratch : List ℕ) → IsFit setup → length setup.board.cells ≤ 625
+    → Begun setup tax limits most (Ok game) → black.is_kept ≡ false → white.is_kept ≡ false → HaveBudgets game.regions black white scratch
     → IsFitPlayer game black white scratch 0
-begin_fit setup limits most game black white scratch fit small (opening, cut, steady) none nothing many = record {
+begin_fit setup tax limits most game black white scratch fit small (opening, cut, steady) none nothing many = record {
   board = setup.board;
   reached = record {
     black_prisoners = setup.black_prisoners;
     white_prisoners = setup.white_prisoners;
     komi = setup.komi_halves;
     side = setup.side;
-    tax = limits.tax;
+    tax = tax;
     start = game.state;
     moves = [];
     settled = fit.settled;
@@ -64,7 +64,7 @@ begin_fit setup limits most game black white scratch fit small (opening, cut, st
   many = many;
   serve = both_serve game black white 0 (nothing_serves game.regions Black game.state black none) (nothing_serves game.regions White game.state white nothing);
   few = omega arith;
-  purses = λ c. let most = purse_few setup.board setup.black_prisoners setup.white_prisoners setup.komi_halves setup.side limits.tax game.state small opening fit.black fit.white fit.komi c in
+  purses = λ c. let most = purse_few setup.board setup.black_prisoners setup.white_prisoners setup.komi_halves setup.side tax game.state small opening fit.black fit.white fit.komi c in
       omega (arith, most);
 }
 

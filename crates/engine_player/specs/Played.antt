@@ -1,5 +1,5 @@
 -- Where a game stands in which kos can arise, what its engine does there, and what a move by hand does.
-use Rattle.std.specs.Prelude.{ℕ, ◌+◌, ◌≡◌, List, Option, None, Result, Ok, Err}
+use Rattle.std.specs.Prelude.{ℕ, Bool, ◌+◌, ◌≡◌, List, Option, None, Result, Ok, Err}
 use Rattle.go_grid.specs.declared.grid.Colour.{Colour}
 use Rattle.go_grid.specs.declared.grid.Colour.TheVariants.{Black, White}
 use Rattle.go_grid.specs.Region.{Region}
@@ -8,7 +8,7 @@ use Rattle.go_play.specs.Setup.{Setup}
 use Rattle.whole_rules.specs.declared.states.Move.{Move}
 use Rattle.whole_rules.specs.declared.states.MoveError.{MoveError}
 use Rattle.whole_rules.specs.WholeGame.{Whole, IsMove, Refuses}
-use Rattle.endgame_solver.specs.declared.limits.Limits.{Limits}
+use Rattle.endgame_solver.specs.Limits.{Limits}
 use Rattle.endgame_solver.specs.Solved.{OpensAs}
 use Rattle.whole_budgets.specs.EnginePlay.{EngineMoves, Serves}
 use Rattle.cycle_solver.specs.CycleFaults.{AreRefused, AreSteadyWithin}
@@ -55,9 +55,10 @@ abbrev pub AnswersMove : Played → Move → Result Unit MoveError → Played �
 AnswersMove p m (Ok _) q = IsMove p.state m q.state × (q.keeping ≡ keeping_with p.state.side None p.keeping)
 AnswersMove p m (Err e) q = Refuses p.state m e × (q ≡ p)
 
--- the game that the position opens, all of whose regions are steady within the limits, with nothing kept; or why there is none
-abbrev pub BeginsPlay : Setup → Limits → ℕ → Result Played CycleError → Type 0
-BeginsPlay setup limits most (Ok p) = OpensAs setup limits.tax p.state × AreRegionsOfPlay setup.board p.keeping.regions
+-- the game that the position opens, with or without a tax, all of whose regions are steady within the limits, with nothing kept;
+-- or why there is none
+abbrev pub BeginsPlay : Setup → Bool → Limits → ℕ → Result Played CycleError → Type 0
+BeginsPlay setup tax limits most (Ok p) = OpensAs setup tax p.state × AreRegionsOfPlay setup.board p.keeping.regions
     × AreSteadyWithin limits most p.keeping.regions × (p.keeping.black ≡ None) × (p.keeping.white ≡ None) × (p.keeping.moves ≡ 0)
-BeginsPlay setup limits most (Err (Memory e)) = Unit {0}
-BeginsPlay setup limits most (Err fault) = (regions : List Region) × AreRegionsOfPlay setup.board regions × AreRefused limits most regions fault
+BeginsPlay setup tax limits most (Err (Memory e)) = Unit {0}
+BeginsPlay setup tax limits most (Err fault) = (regions : List Region) × AreRegionsOfPlay setup.board regions × AreRefused limits most regions fault

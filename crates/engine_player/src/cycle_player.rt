@@ -20,7 +20,6 @@ use crate::kept::Kept;
 use cycle_solver::{CycleError, CycleGame};
 use endgame_solver::Limits;
 use go_grid::Colour;
-use local_graph::MOST_POSITIONS;
 use local_play::Steps;
 use sgf_go::Setup;
 use std::alloc::{AllocError, Global};
@@ -203,23 +202,23 @@ fn move_by_hand(
 }
 
 impl CyclePlayer {
-    /// The game that a position opens, with a tax where the limits say it, in which nothing is kept yet. It refuses as
+    /// The game that a position opens, with or without a tax, in which nothing is kept yet. It refuses as
     /// `CycleGame::begin` does, and takes as many steps.
     pub fn begin<L: Ledger>(
         alloc: Global,
         setup: &Setup,
+        tax: bool,
         limits: &Limits,
         most: u8,
         steps: &mut Steps<L>,
     ) -> Result<CyclePlayer, CycleError>
-        requires taxed { MayTax limits.now.tax setup.now.board }
-        requires positions { limits.now.positions ≤ MOST_POSITIONS }
-        ensures begun { BeginsPlay setup.now limits.now most result }
+        requires taxed { MayTax tax setup.now.board }
+        ensures begun { BeginsPlay setup.now tax limits.now most result }
         ensures steps { (regions : List Region) → AreRegionsOfPlay setup.now.board regions
             → steps.new ≤ steps.old + most_steps limits.now regions }
     {
         let _size = setup.board().size();
-        let game = CycleGame::begin(alloc, setup, limits, most, steps)?;
+        let game = CycleGame::begin(alloc, setup, tax, limits, most, steps)?;
         match begin_keeping(alloc, game.regions()) {
             Ok(begun) => Ok(CyclePlayer {
                 game,

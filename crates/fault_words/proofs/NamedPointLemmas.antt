@@ -1,5 +1,5 @@
 -- The points that faults of regions name are points of the board.
-use Rattle.std.proofs.Common.{ℕ, zero, suc, ◌<◌, ◌++◌, List, [], ◌∷◌, length, map, take, drop, get_or, sym, subst, arith, Err}
+use Rattle.std.proofs.Common.{ℕ, zero, suc, ◌<◌, ◌++◌, List, [], ◌∷◌, length, map, take, drop, get_or, sym, subst, arith, Bool, Err}
 use Rattle.std.specs.List.{All, Contains}
 use Rattle.std.proofs.lemmas.List.{take-append-drop}
 use Rattle.std.proofs.lemmas.List.Elements.{All-map, Contains-get_or}
@@ -14,7 +14,7 @@ use Rattle.region_cut.specs.Cut.{lowest, AreRegionsOfPlay}
 use Rattle.go_play.specs.Setup.{Setup}
 use Rattle.local_graph.specs.declared.cycle.CycleMove.{CycleMove}
 use Rattle.local_graph.specs.LocalGraph.{IsCycle, Plays}
-use Rattle.endgame_solver.specs.declared.limits.Limits.{Limits}
+use Rattle.endgame_solver.specs.Limits.{Limits}
 use Rattle.endgame_solver.specs.declared.faults.SolveError.{SolveError}
 use Rattle.endgame_solver.specs.declared.faults.SolveError.TheVariants.{Points, Positions, Cycle, Form, Memory}
 use Rattle.endgame_solver.specs.Faults.{named}
@@ -57,14 +57,14 @@ module _ (g : Board) (regions : List Region) (are : AreRegionsOfPlay g regions) 
       on_board _ (Contains-get_or r.points (get_or ms j d).place 0 (omega (arith, inside, (are.each r here).proper.full))))
 
 -- the points that a fault names are points of the board
-pub names_points : (setup : Setup) (limits : Limits) (fault : SolveError) → Begun setup limits (Err fault) → NamesPoints (length setup.board.cells) fault
-names_points setup limits (Points p n) (regions, are, first) = subst (λ q. q < length setup.board.cells) (sym first.2) (lowest_on_board setup.board regions are first.0 first.1)
-names_points setup limits (Positions p) (regions, are, (small, first)) =
+pub names_points : (setup : Setup) (tax : Bool) (limits : Limits) (fault : SolveError) → Begun setup tax limits (Err fault) → NamesPoints (length setup.board.cells) fault
+names_points setup tax limits (Points p n) (regions, are, first) = subst (λ q. q < length setup.board.cells) (sym first.2) (lowest_on_board setup.board regions are first.0 first.1)
+names_points setup tax limits (Positions p) (regions, are, (small, first)) =
     subst (λ q. q < length setup.board.cells) (sym first.2.0) (lowest_on_board setup.board regions are first.0 first.1)
-names_points setup limits (Cycle p names back) (regions, are, (small, first)) = let c = first.2.2 in (
+names_points setup tax limits (Cycle p names back) (regions, are, (small, first)) = let c = first.2.2 in (
   subst (λ q. q < length setup.board.cells) (sym first.2.0) (lowest_on_board setup.board regions are first.0 first.1),
   subst (All (λ m. m.1 < length setup.board.cells)) (sym c.3) (cycle_on_board setup.board regions are first.0 first.1 c.0 back c.1),
 )
-names_points setup limits (Form p) (regions, are, (small, first)) =
+names_points setup tax limits (Form p) (regions, are, (small, first)) =
     subst (λ q. q < length setup.board.cells) (sym first.2.0) (lowest_on_board setup.board regions are first.0 first.1)
-names_points setup limits (Memory e) b = tt
+names_points setup tax limits (Memory e) b = tt

@@ -2,7 +2,7 @@
 use Rattle.std.specs.Prelude.{◌≡◌, ℕ, List, ◌++◌, flat_map, codes, decimal}
 use Rattle.go_grid.specs.declared.grid.Colour.{Colour}
 use Rattle.board_words.specs.Words.{colour_word}
-use Rattle.endgame_solver.specs.declared.limits.Limits.{Limits}
+use Rattle.endgame_solver.specs.Limits.{Limits}
 use Rattle.endgame_solver.specs.declared.faults.SolveError.{SolveError}
 use Rattle.endgame_solver.specs.declared.faults.SolveError.TheVariants.{Points, Positions, Cycle, Form, Memory}
 

@@ -146,7 +146,7 @@ pub fn fault_words(
     match fault {
         SolveError::Points(lowest, points) => points_words(alloc, naming, size, lowest, points),
         SolveError::Positions(lowest) => {
-            positions_words(alloc, naming, size, lowest, limits.positions)
+            positions_words(alloc, naming, size, lowest, limits.positions())
         }
         SolveError::Cycle(lowest, moves, back) => {
             cycle_words(alloc, naming, size, lowest, back, moves.as_slice())

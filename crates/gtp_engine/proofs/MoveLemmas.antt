@@ -1,5 +1,5 @@
 -- What is said of a move.
-use Rattle.std.proofs.Common.{◌≡◌, ℕ, List, [], ap, arith, inl, inr, refl, sym, ◌∙◌, subst, Option, Some, None, Ok, Err, false, true}
+use Rattle.std.proofs.Common.{◌≡◌, ℕ, List, [], ap, arith, inl, inr, refl, sym, ◌∙◌, subst, Option, Some, None, Ok, Err, Bool, false, true}
 use Rattle.std.specs.Prelude.{codes}
 use Rattle.std.proofs.lemmas.List.Elements.{Contains-get_or}
 use Rattle.go_grid.specs.Region.{Region}
@@ -14,7 +14,7 @@ use Rattle.cycle_solver.specs.declared.faults.CycleError.TheVariants as unsteady
 use Rattle.engine_player.specs.declared.player.TheConstants.{MOST_CAPTURES}
 use Rattle.engine_player.specs.Played.{BeginsPlay}
 use Rattle.engine_player.specs.Opening.{OpensNone}
-use Rattle.endgame_solver.specs.declared.limits.Limits.{Limits}
+use Rattle.endgame_solver.specs.Limits.{Limits}
 use Rattle.endgame_solver.specs.declared.faults.SolveError.{SolveError}
 use Rattle.endgame_solver.specs.declared.faults.SolveError.TheVariants.{Points, Positions, Cycle, Form, Memory}
 use Rattle.endgame_solver.specs.Faults.{AreSound, IsFaultOf, IsFirstFault, IsFirstLarge, IsSound}
@@ -58,12 +58,12 @@ large_unsound limits regions p n h sound =
     omega (arith, few, h.3, h.4)
 
 -- a fault keeps the setup from being opened
-pub cannot_open : (limits : Limits) (setup : Setup) (f : SolveError) → Begun setup limits (Err f) → IsFault f → OpensNone false limits setup
-cannot_open limits setup (Points p n) b i = (b.0, b.1, large_unsound limits b.0 p n b.2)
-cannot_open limits setup (Positions p) b i = (b.0, b.1, first_unsound limits b.0 (Positions p) b.2.1)
-cannot_open limits setup (Cycle p names back) b i = (b.0, b.1, first_unsound limits b.0 (Cycle p names back) b.2.1)
-cannot_open limits setup (Form p) b i = (b.0, b.1, first_unsound limits b.0 (Form p) b.2.1)
-cannot_open limits setup (Memory e) b i = absurd i
+pub cannot_open : (limits : Limits) (tax : Bool) (setup : Setup) (f : SolveError) → Begun setup tax limits (Err f) → IsFault f → OpensNone false limits setup
+cannot_open limits tax setup (Points p n) b i = (b.0, b.1, large_unsound limits b.0 p n b.2)
+cannot_open limits tax setup (Positions p) b i = (b.0, b.1, first_unsound limits b.0 (Positions p) b.2.1)
+cannot_open limits tax setup (Cycle p names back) b i = (b.0, b.1, first_unsound limits b.0 (Cycle p names back) b.2.1)
+cannot_open limits tax setup (Form p) b i = (b.0, b.1, first_unsound limits b.0 (Form p) b.2.1)
+cannot_open limits tax setup (Memory e) b i = absurd i
 
 -- a steady region has no fault
 steady_has_none : (limits : Limits) (most : ℕ) (r : Region) (f : CycleError) → IsSteadyWithin limits most r → steady.IsFaultOf limits most r f → ⊥
@@ -83,12 +83,12 @@ large_unsteady limits most regions p n h sound =
     omega (arith, few, h.3, h.4)
 
 -- the same where regions may have cycles
-pub cannot_open_with_cycles : (limits : Limits) (setup : Setup) (f : CycleError) → BeginsPlay setup limits MOST_CAPTURES (Err f) → IsCycleFault f → OpensNone true limits setup
-cannot_open_with_cycles limits setup (unsteady.Points p n) b i = (b.0, b.1, large_unsteady limits MOST_CAPTURES b.0 p n b.2)
-cannot_open_with_cycles limits setup (unsteady.Positions p) b i = (b.0, b.1, first_unsteady limits MOST_CAPTURES b.0 (unsteady.Positions p) b.2.1)
-cannot_open_with_cycles limits setup (unsteady.Form p) b i = (b.0, b.1, first_unsteady limits MOST_CAPTURES b.0 (unsteady.Form p) b.2.1)
-cannot_open_with_cycles limits setup (unsteady.Captures p) b i = (b.0, b.1, first_unsteady limits MOST_CAPTURES b.0 (unsteady.Captures p) b.2.1)
-cannot_open_with_cycles limits setup (unsteady.Memory e) b i = absurd i
+pub cannot_open_with_cycles : (limits : Limits) (tax : Bool) (setup : Setup) (f : CycleError) → BeginsPlay setup tax limits MOST_CAPTURES (Err f) → IsCycleFault f → OpensNone true limits setup
+cannot_open_with_cycles limits tax setup (unsteady.Points p n) b i = (b.0, b.1, large_unsteady limits MOST_CAPTURES b.0 p n b.2)
+cannot_open_with_cycles limits tax setup (unsteady.Positions p) b i = (b.0, b.1, first_unsteady limits MOST_CAPTURES b.0 (unsteady.Positions p) b.2.1)
+cannot_open_with_cycles limits tax setup (unsteady.Form p) b i = (b.0, b.1, first_unsteady limits MOST_CAPTURES b.0 (unsteady.Form p) b.2.1)
+cannot_open_with_cycles limits tax setup (unsteady.Captures p) b i = (b.0, b.1, first_unsteady limits MOST_CAPTURES b.0 (unsteady.Captures p) b.2.1)
+cannot_open_with_cycles limits tax setup (unsteady.Memory e) b i = absurd i
 
 -- the side to move has no move
 pub acted_resigned : (s t : EngineGame) (id reply : List ℕ) → ¬ HasMove s.state → t ≡ s → reply ≡ reply_text id (done (codes "resign")) → IsActed Generate id s reply t

@@ -33,7 +33,7 @@ use Rattle.gtp_engine.specs.Moves.{move_for, move_text}
 use Rattle.gtp_engine.specs.Request.{Asked, Asks, Order}
 use Rattle.gtp_engine.specs.Request.Asked.{something, unknown, misfit}
 use Rattle.gtp_engine.specs.Request.Order.{protocol_version, name, version, known_command, list_commands, boardsize, clear_board, komi, play, genmove, loadsgf, quit}
-use Rattle.gtp_engine.specs.Session.{AnswersLine, AnswersWords, Does, Generates, LoadsFile, Meets, Obeys, PlaysMove, PlaysWanted, RefusesWith, Said, SaysWhetherKnown, Table, TakesKomi, TakesSize, TakesTurn, done, first_table, fresh, game_limits, is_last, refused, reply_text, with_side}
+use Rattle.gtp_engine.specs.Session.{AnswersLine, AnswersWords, Does, Generates, LoadsFile, Meets, Obeys, PlaysMove, PlaysWanted, RefusesWith, Said, SaysWhetherKnown, Table, TakesKomi, TakesSize, TakesTurn, done, first_table, fresh, is_last, refused, reply_text, with_side}
 use Rattle.gtp_engine.proofs.OneRequestLaws.{one_asked}
 use Rattle.gtp_engine.proofs.SizeLaws.{IsSmall, few_cells, small_setup}
 
@@ -94,10 +94,10 @@ module _ (limits : EngineLimits) (c : Colour) (Act : EngineGame → Said → Eng
   at g = record { setup = setup; game = g }
 
   abbrev Begins : Said → Table → Type 0
-  Begins x v = (p q : EngineGame) × OpensGame limits.cycles (game_limits limits) (with_side setup c) p × Act p x q × (v ≡ record { setup = with_side setup c; game = Some q })
+  Begins x v = (p q : EngineGame) × OpensGame limits.cycles limits.game false (with_side setup c) p × Act p x q × (v ≡ record { setup = with_side setup c; game = Some q })
 
   abbrev Cannot : Said → Table → Type 0
-  Cannot x v = OpensNone limits.cycles (game_limits limits) (with_side setup c) × RefusesWith CannotSolve (at None) x v
+  Cannot x v = OpensNone limits.cycles limits.game (with_side setup c) × RefusesWith CannotSolve (at None) x v
 
   -- or goes on with the one that runs, or is out of turn
   abbrev GoesOn : EngineGame → Said → Table → Type 0
@@ -128,12 +128,12 @@ module _ (limits : EngineLimits) (c : Colour) (Act : EngineGame → Said → Eng
 
   both_begin : (x y : Said) (v w : Table) → Begins x v ⊎ Cannot x v → Begins y w ⊎ Cannot y w → SaysAlike x y v w
   both_begin x y v w (inl (p, r, opens, act, is)) (inl (q, u, also, too, are)) =
-      let like = opens_alike limits.cycles (game_limits limits) (with_side setup c) p q opens also in
-      let board = opened_board limits.cycles (game_limits limits) (with_side setup c) p opens in
+      let like = opens_alike limits.cycles limits.game false (with_side setup c) p q opens also in
+      let board = opened_board limits.cycles limits.game false (with_side setup c) p opens in
       let (said, games) = acts p q r u x y (like, subst (λ g. length g.cells ≤ 625) (sym board) (few_cells setup.board small)) act too in
       (said, begun r u v w games is are)
-  both_begin x y v w (inl (p, r, opens, act, is)) (inr (none, said)) = absurd (opens_or_not limits.cycles (game_limits limits) (with_side setup c) p opens none)
-  both_begin x y v w (inr (none, said)) (inl (p, r, opens, act, is)) = absurd (opens_or_not limits.cycles (game_limits limits) (with_side setup c) p opens none)
+  both_begin x y v w (inl (p, r, opens, act, is)) (inr (none, said)) = absurd (opens_or_not limits.cycles limits.game false (with_side setup c) p opens none)
+  both_begin x y v w (inr (none, said)) (inl (p, r, opens, act, is)) = absurd (opens_or_not limits.cycles limits.game false (with_side setup c) p opens none)
   both_begin x y v w (inr (none, (e, is))) (inr (nor, (f, also))) = stays (at None) (at None) v w x y (refused CannotSolve) (record { setup = refl; small = small; games = tt }) e is f also
 
   both_go_on : (p q : EngineGame) (x y : Said) (v w : Table) → AlikeGames (Some p) (Some q) → GoesOn p x v ⊎ Waits p x v → GoesOn q y w ⊎ Waits q y w → SaysAlike x y v w

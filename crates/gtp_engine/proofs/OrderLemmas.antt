@@ -1,17 +1,17 @@
 -- What single orders leave behind.
-use Rattle.std.proofs.Common.{◌≡◌, ◌≢◌, ◌⊎◌, ◌≤◌, ◌<◌, ℕ, ℤ, List, [], inl, inr, refl, sym, ap, ◌∙◌, subst, Some, None, Ok, Err, Result, IfOk}
+use Rattle.std.proofs.Common.{◌≡◌, ◌≢◌, ◌⊎◌, ◌≤◌, ◌<◌, ℕ, ℤ, List, [], inl, inr, refl, sym, ap, ◌∙◌, subst, false, Some, None, Ok, Err, Result, IfOk}
 use Rattle.go_grid.specs.declared.grid.Colour.{Colour}
 use Rattle.go_play.specs.Setup.{Setup}
 use Rattle.engine_player.specs.EngineGame.{EngineGame}
 use Rattle.engine_player.specs.Opening.{OpensGame, OpensNone}
-use Rattle.endgame_solver.specs.declared.limits.Limits.{Limits}
+use Rattle.endgame_solver.specs.Limits.{Limits}
 use Rattle.gtp_engine.specs.declared.playing.Action.{Action}
 use Rattle.gtp_engine.specs.declared.reply.Refusal.TheVariants.{CannotSolve, GameHasBegun, NotInTurn, UnacceptableSize}
 use Rattle.gtp_engine.specs.inner.Doing.{IsDone, IsFresh, IsRunning, IsTurnTaken, with_table}
 use Rattle.gtp_engine.specs.inner.Playing.{IsActed}
 use Rattle.gtp_engine.specs.Request.{Order}
 use Rattle.gtp_engine.specs.Request.Order.{boardsize, clear_board, komi}
-use Rattle.gtp_engine.specs.Session.{Does, Table, done, fresh, game_limits, refused, reply_text, with_side}
+use Rattle.gtp_engine.specs.Session.{Does, Table, done, fresh, refused, reply_text, with_side}
 use Rattle.gtp_engine.specs.Written.{Engine}
 
 pub komi_refused : (a : Engine) (halves : ℤ) (id reply : List ℕ) → IsRunning a → reply ≡ reply_text id (refused GameHasBegun) → IsDone (komi halves) id a reply a
@@ -63,7 +63,7 @@ pub turn_taken : (a b : Engine) (c : Colour) (action : Action) (s v : EngineGame
 turn_taken a b c action s v id reply runs own acted is = (acted.0, record a.table { game = Some v }, inr (inr (inl (s, v, runs, own, acted.1, refl))), acted.2, is)
 
 module _ (a : Engine) (limits : Limits) (setup other : Setup) (c : Colour) (action : Action) (id reply : List ℕ)
-    (same_limits : limits ≡ game_limits a.limits) (same_setup : setup ≡ a.table.setup) (none : IsFresh a) (is : other ≡ with_side setup c) where
+    (same_limits : limits ≡ a.limits.game) (same_setup : setup ≡ a.table.setup) (none : IsFresh a) (is : other ≡ with_side setup c) where
   with_side_is : other ≡ with_side a.table.setup c
   with_side_is = is ∙ ap (λ x. with_side x c) same_setup
 
@@ -73,12 +73,12 @@ module _ (a : Engine) (limits : Limits) (setup other : Setup) (c : Colour) (acti
       (refused CannotSolve, a.table, inr (inl (none, subst (λ l. OpensNone a.limits.cycles l (with_side a.table.setup c)) same_limits (subst (OpensNone a.limits.cycles limits) with_side_is cannot), (refl, refl))), said, refl)
 
   -- the first turn of the game that the setup opens
-  pub turn_first : (b : Engine) (s v : EngineGame) → OpensGame a.limits.cycles limits other s → IsActed action id s reply v → b ≡ record a { table = record { setup = other; game = Some v } }
+  pub turn_first : (b : Engine) (s v : EngineGame) → OpensGame a.limits.cycles limits false other s → IsActed action id s reply v → b ≡ record a { table = record { setup = other; game = Some v } }
       → IsTurnTaken c action id a reply b
   turn_first b s v playable acted left = (
     acted.0,
     record { setup = with_side a.table.setup c; game = Some v },
-    inl (none, (s, v, subst (λ l. OpensGame a.limits.cycles l (with_side a.table.setup c) s) same_limits (subst (λ x. OpensGame a.limits.cycles limits x s) with_side_is playable), acted.1, refl)),
+    inl (none, (s, v, subst (λ l. OpensGame a.limits.cycles l false (with_side a.table.setup c) s) same_limits (subst (λ x. OpensGame a.limits.cycles limits false x s) with_side_is playable), acted.1, refl)),
     acted.2,
     left ∙ ap (λ x. with_table a (record { setup = x; game = Some v })) with_side_is,
   )

@@ -6,7 +6,7 @@ use Rattle.desk_io.specs.Files.{Files}
 use Rattle.go_grid.specs.declared.grid.Colour.{Colour}
 use Rattle.go_play.specs.Setup.{Setup}
 use Rattle.whole_rules.specs.declared.states.Move.{Move}
-use Rattle.endgame_solver.specs.declared.limits.Limits.{Limits}
+use Rattle.endgame_solver.specs.Limits.{Limits}
 use Rattle.engine_player.specs.EngineGame.{EngineGame}
 use Rattle.engine_player.specs.Opening.{OpensGame}
 use Rattle.engine_player.specs.Room.{CanTake, MayHaveMovesLeft}
@@ -42,12 +42,12 @@ pub unused_room : (limits : EngineLimits) (a : Engine) (n : ℕ) → a ≡ unuse
 unused_room limits a n first = subst (λ z. HasRoomFor n z.table) (sym first) tt
 
 -- a game that is opened has room for all lines of a session
-opened : (cycles : Bool) (limits : Limits) (setup : Setup) (p : EngineGame) → OpensGame cycles limits setup p → CanTake MOST_LINES p
-opened false limits setup p (playable, is) = subst (MayHaveMovesLeft MOST_LINES) (sym is) tt
-opened true limits setup p (keeping, begins, is) = subst (MayHaveMovesLeft MOST_LINES) (sym is) (omega (arith, begins.5))
+opened : (cycles : Bool) (limits : Limits) (tax : Bool) (setup : Setup) (p : EngineGame) → OpensGame cycles limits tax setup p → CanTake MOST_LINES p
+opened false limits tax setup p (playable, is) = subst (MayHaveMovesLeft MOST_LINES) (sym is) tt
+opened true limits tax setup p (keeping, begins, is) = subst (MayHaveMovesLeft MOST_LINES) (sym is) (omega (arith, begins.5))
 
-pub opened_room : (cycles : Bool) (limits : Limits) (setup : Setup) (p : EngineGame) → OpensGame cycles limits setup p → CanTake 1 p
-opened_room cycles limits setup p opens = can_take_less p 1 MOST_LINES (omega arith) (opened cycles limits setup p opens)
+pub opened_room : (cycles : Bool) (limits : Limits) (tax : Bool) (setup : Setup) (p : EngineGame) → OpensGame cycles limits tax setup p → CanTake 1 p
+opened_room cycles limits tax setup p opens = can_take_less p 1 MOST_LINES (omega arith) (opened cycles limits tax setup p opens)
 
 -- an action leaves room for one move less
 abbrev Lessens : (EngineGame → Said → EngineGame → Type 0) → Type 0
@@ -68,7 +68,7 @@ generates p q said n (inr (none, is, same)) room = subst (CanTake n) (sym same) 
 module _ (limits : EngineLimits) where
   turn : (c : Colour) (Act : EngineGame → Said → EngineGame → Type 0) → Lessens Act → (t u : Table) (said : Said) → TakesTurn limits c Act t said u → LeavesRoom t u
   turn c Act lessens t u said (inl (none, (p, q, opens, act, is))) n few room =
-      subst (HasRoomFor n) (sym is) (lessens p q said n act (can_take_less p (n + 1) MOST_LINES (omega (arith, few)) (opened limits.cycles _ _ p opens)))
+      subst (HasRoomFor n) (sym is) (lessens p q said n act (can_take_less p (n + 1) MOST_LINES (omega (arith, few)) (opened limits.cycles _ _ _ p opens)))
   turn c Act lessens t u said (inr (inl (none, cannot, (said', same)))) n few room = same_room t u same n few room
   turn c Act lessens t u said (inr (inr (inl (p, q, runs, own, act, is)))) n few room =
       subst (HasRoomFor n) (sym is) (lessens p q said n act (subst (λ g. IfSome g (CanTake (n + 1))) runs room))

@@ -9,7 +9,6 @@ use Rattle.sgf_go.specs.declared.settings.Settings.{Settings}
 use Rattle.go_play.specs.Setup.{Setup}
 use Rattle.whole_rules.specs.declared.states.Move.{Move}
 use Rattle.whole_rules.specs.declared.states.MoveError.{MoveError}
-use Rattle.endgame_solver.specs.declared.limits.Limits.{Limits}
 use Rattle.gtp_engine.specs.declared.limits.EngineLimits.{EngineLimits}
 use Rattle.endgame_solver.specs.Solved.{HasMove}
 use Rattle.engine_player.specs.EngineGame.{EngineGame, EngineGoes, GoesByHand}
@@ -114,16 +113,12 @@ Generates p said q = ((m : Move) × EngineGoes p m q × (said ≡ done (move_tex
 abbrev pub with_side : Setup → Colour → Setup
 with_side setup c = record setup { side = c }
 
--- the limits of a game of the engine, in which there is no tax
-abbrev pub game_limits : EngineLimits → Limits
-game_limits limits = record { positions = limits.positions; parts = limits.parts; tax = false }
-
 -- A turn of the colour in a running game, or in that which a fresh setup opens with the colour to move.
 abbrev pub TakesTurn : EngineLimits → Colour → (EngineGame → Said → EngineGame → Type 0) → Table → Said → Table → Type 0
 TakesTurn limits c Act t said u =
-    ((t.game ≡ None) × ((p q : EngineGame) × OpensGame limits.cycles (game_limits limits) (with_side t.setup c) p × Act p said q
+    ((t.game ≡ None) × ((p q : EngineGame) × OpensGame limits.cycles limits.game false (with_side t.setup c) p × Act p said q
     × (u ≡ record { setup = with_side t.setup c; game = Some q })))
-    ⊎ (((t.game ≡ None) × OpensNone limits.cycles (game_limits limits) (with_side t.setup c) × RefusesWith CannotSolve t said u)
+    ⊎ (((t.game ≡ None) × OpensNone limits.cycles limits.game (with_side t.setup c) × RefusesWith CannotSolve t said u)
     ⊎ (((p q : EngineGame) × (t.game ≡ Some p) × (p.state.side ≡ c) × Act p said q × (u ≡ record t { game = Some q }))
     ⊎ ((p : EngineGame) × (t.game ≡ Some p) × (p.state.side ≢ c) × RefusesWith NotInTurn t said u)))
 

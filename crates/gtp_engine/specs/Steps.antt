@@ -9,7 +9,7 @@ use Rattle.gtp_engine.specs.declared.limits.EngineLimits.{EngineLimits}
 use Rattle.gtp_engine.specs.Request.{Asked, Asks, Order}
 use Rattle.gtp_engine.specs.Request.Asked.{something}
 use Rattle.gtp_engine.specs.Request.Order.{genmove, play}
-use Rattle.gtp_engine.specs.Session.{Table, game_limits}
+use Rattle.gtp_engine.specs.Session.{Table}
 
 -- the order is a turn
 abbrev pub IsTurn : Order → Type 0
@@ -25,7 +25,7 @@ AskForTurn asked = ⊥
 -- no game runs, and these are at most the steps to open one: for the regions of play of the board
 abbrev pub OpensWithin : EngineLimits → Table → ℕ → ℕ → Type 0
 OpensWithin limits t before now = (t.game ≡ None)
-    × ((regions : List Region) → AreRegionsOfPlay t.setup.board regions → now ≤ before + most_steps (game_limits limits) regions)
+    × ((regions : List Region) → AreRegionsOfPlay t.setup.board regions → now ≤ before + most_steps limits.game regions)
 
 -- the steps of a line: none, or where it asks for a turn those to open a game
 abbrev pub AreLineSteps : EngineLimits → LineSteps Table

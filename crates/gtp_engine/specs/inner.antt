@@ -2,5 +2,4 @@
 pub mod Doing
 pub mod Playing
 pub mod Viewed
-pub mod Kept
 pub mod Written

@@ -26,7 +26,6 @@ use engine_player::Player;
 use game_text::Text;
 use go_grid::Size;
 use gtp_words::{Answer, Loading, Loads, MOST_LOADS, clean, load, split, take_id};
-use local_graph::MOST_POSITIONS;
 use local_play::Steps;
 use sgf_go::Setup;
 use std::alloc::{AllocError, Global};
@@ -45,7 +44,6 @@ pub struct Engine {
 
 impl Model for Engine {
     ghost use Rattle.gtp_engine.specs.Written.{Engine};
-    ghost use Rattle.gtp_engine.specs.inner.Kept.{IsFitEngine};
 
     ghost Value = { Engine };
 
@@ -54,8 +52,6 @@ impl Model for Engine {
       table = record { setup = e.setup; game = e.game };
       loads = e.loads;
     } };
-
-    ghost invariant = { λ e. IsFitEngine e.limits };
 }
 
 /// The names of all commands, one a line.
@@ -91,7 +87,6 @@ fn refusal(alloc: Global, id: &[u8], why: Refusal) -> Result<Answer, AllocError>
 impl Engine {
     /// An engine with an empty board of 19 by 19, no komi and Black to move.
     pub fn new(alloc: Global, limits: EngineLimits) -> Result<Engine, AllocError>
-        requires positions { limits.positions ≤ MOST_POSITIONS }
         ensures { IfOk result (λ engine. engine ≡ unused limits) }
     {
         let size = Size {

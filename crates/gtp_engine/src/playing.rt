@@ -4,7 +4,6 @@ ghost use Rattle.std.specs.Prelude.{◌≡◌, ◌≤◌, ◌+◌, List, IfOk, O
 ghost use Rattle.endgame_solver.specs.Faults.{most_steps};
 ghost use Rattle.go_grid.specs.Region.{Region};
 ghost use Rattle.region_cut.specs.Cut.{AreRegionsOfPlay};
-ghost use Rattle.whole_rules.specs.Opening.{MayTax};
 ghost use Rattle.gtp_engine.specs.inner.Playing.{IsActed, IsCycleFault, IsFault, IsOpened};
 ghost use Rattle.engine_player.specs.Room.{CanTake};
 
@@ -14,7 +13,6 @@ use cycle_solver::CycleError;
 use endgame_solver::{Limits, SolveError, Solved};
 use engine_player::{CyclePlayer, MOST_CAPTURES, Player};
 use game_text::Text;
-use local_graph::MOST_POSITIONS;
 use local_play::Steps;
 use sgf_go::Setup;
 use std::alloc::{AllocError, Global};
@@ -60,13 +58,11 @@ fn open_plain<L: Ledger>(
     limits: &Limits,
     steps: &mut Steps<L>,
 ) -> Result<Option<Player>, AllocError>
-    requires taxed { MayTax limits.now.tax setup.now.board }
-    requires positions { limits.now.positions ≤ MOST_POSITIONS }
     ensures opened { IfOk result (IsOpened false limits.now setup.now) }
     ensures steps { (regions : List Region) → AreRegionsOfPlay setup.now.board regions
         → steps.new ≤ steps.old + most_steps limits.now regions }
 {
-    match Solved::begin(alloc, setup, limits, steps) {
+    match Solved::begin(alloc, setup, false, limits, steps) {
         Ok(solved) => Ok(Some(Player::without_cycles(solved))),
         Err(fault) => {
             unless_memory(fault)?;
@@ -82,13 +78,11 @@ fn open_with_cycles<L: Ledger>(
     limits: &Limits,
     steps: &mut Steps<L>,
 ) -> Result<Option<Player>, AllocError>
-    requires taxed { MayTax limits.now.tax setup.now.board }
-    requires positions { limits.now.positions ≤ MOST_POSITIONS }
     ensures opened { IfOk result (IsOpened true limits.now setup.now) }
     ensures steps { (regions : List Region) → AreRegionsOfPlay setup.now.board regions
         → steps.new ≤ steps.old + most_steps limits.now regions }
 {
-    match CyclePlayer::begin(alloc, setup, limits, MOST_CAPTURES, steps) {
+    match CyclePlayer::begin(alloc, setup, false, limits, MOST_CAPTURES, steps) {
         Ok(game) => Ok(Some(Player::with_cycles(game))),
         Err(fault) => {
             unless_wanted(fault)?;
@@ -105,8 +99,6 @@ pub(crate) fn open<L: Ledger>(
     cycles: bool,
     steps: &mut Steps<L>,
 ) -> Result<Option<Player>, AllocError>
-    requires taxed { MayTax limits.now.tax setup.now.board }
-    requires positions { limits.now.positions ≤ MOST_POSITIONS }
     ensures opened { IfOk result (IsOpened cycles limits.now setup.now) }
     ensures steps { (regions : List Region) → AreRegionsOfPlay setup.now.board regions
         → steps.new ≤ steps.old + most_steps limits.now regions }

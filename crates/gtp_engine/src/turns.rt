@@ -7,7 +7,7 @@ ghost use Rattle.region_cut.specs.Cut.{AreRegionsOfPlay};
 ghost use Rattle.engine_player.specs.EngineGame.{EngineGame};
 ghost use Rattle.engine_player.specs.Room.{CanTake};
 ghost use Rattle.gtp_engine.specs.Kept.{HasRoomFor};
-ghost use Rattle.gtp_engine.specs.Session.{game_limits, with_side};
+ghost use Rattle.gtp_engine.specs.Session.{with_side};
 ghost use Rattle.gtp_engine.specs.Steps.{OpensWithin};
 ghost use Rattle.gtp_engine.specs.inner.Doing.{IsFresh, IsRunning, IsTurnTaken, with_table};
 ghost use Rattle.gtp_engine.specs.inner.Playing.{IsActed, IsOpened};
@@ -54,15 +54,14 @@ impl Engine {
         steps: &mut Steps<L>,
     ) -> Result<Option<Player>, AllocError>
         ensures opened { IfOk result (IsOpened self.now.limits.cycles
-            (game_limits self.now.limits) (with_side self.now.table.setup colour)) }
+            self.now.limits.game (with_side self.now.table.setup colour)) }
         ensures steps { (regions : List Region)
             → AreRegionsOfPlay self.now.table.setup.board regions
-            → steps.new ≤ steps.old + most_steps (game_limits self.now.limits) regions }
+            → steps.new ≤ steps.old + most_steps self.now.limits.game regions }
     {
         let setup = self.setup.with_side(colour)?;
-        let limits = self.limits.of_game();
         let alloc = self.setup.board().allocator();
-        let game = open(alloc, &setup, &limits, self.limits.cycles, steps);
+        let game = open(alloc, &setup, &self.limits.game, self.limits.cycles, steps);
         drop(setup);
         game
     }
@@ -118,7 +117,7 @@ impl Engine {
         ensures same { OnErr result (self.new ≡ self.old) }
         ensures steps { (regions : List Region)
             → AreRegionsOfPlay self.old.table.setup.board regions
-            → steps.new ≤ steps.old + most_steps (game_limits self.old.limits) regions }
+            → steps.new ≤ steps.old + most_steps self.old.limits.game regions }
     {
         let opened = self.opened(colour, steps)?;
         match opened {

@@ -4,7 +4,7 @@ ghost use Rattle.std.specs.Prelude.{◌≡◌, ◌<◌};
 
 use crate::asserts::none_wrong;
 use crate::solved_tests::stone_at;
-use crate::worked_games::{ENDLESS, Game, LIMITS, setup};
+use crate::worked_games::{ENDLESS, Game, MOST, Most, setup};
 use cycle_solver::{CycleError, CycleGame, Thresholds};
 use endgame_solver::Limits;
 use go_grid::{Colour, Point};
@@ -21,23 +21,31 @@ const WON: Game = Game {
     ..ENDLESS
 };
 
-/// The game, with at most so many captures that return in a region, or want of memory where there is no position or a tax.
+/// The game, with at most so many captures that return in a region, or want of memory where there are no such limits or no
+/// position.
 fn begin<L: Ledger>(
     alloc: Global,
     blank: Blank,
     game: Game,
-    limits: Limits,
-    most: u8,
+    most: Most,
+    captures: u8,
 ) -> Result<CycleGame, CycleError>
     requires name { blank.name ≡ L.name }
     requires parts { blank.parts ≡ L.parts }
     requires some { 0 < blank.parts }
 {
-    if limits.positions > 1_000_000 || limits.tax {
+    let Some(limits) = Limits::new(most.positions, most.parts) else {
         return Err(CycleError::Memory(AllocError));
-    }
+    };
     match setup(alloc, game) {
-        Some(setup) => CycleGame::begin(alloc, &setup, &limits, most, &mut Steps::<L>::new(blank)),
+        Some(setup) => CycleGame::begin(
+            alloc,
+            &setup,
+            false,
+            &limits,
+            captures,
+            &mut Steps::<L>::new(blank),
+        ),
         None => Err(CycleError::Memory(AllocError)),
     }
 }
@@ -49,9 +57,9 @@ pub(crate) struct CycleOpened {
 }
 
 /// The game with at most 32 captures that return in a region.
-pub(crate) fn begun(alloc: Global, game: Game, limits: Limits) -> CycleOpened {
+pub(crate) fn begun(alloc: Global, game: Game, most: Most) -> CycleOpened {
     CycleOpened {
-        result: begin::<Brand>(alloc, Blank::new(1), game, limits, 32),
+        result: begin::<Brand>(alloc, Blank::new(1), game, most, 32),
     }
 }
 
@@ -86,7 +94,7 @@ fn is_won(alloc: Global, row: &Won) -> bool {
         komi: row.1,
         ..row.0
     };
-    let mut opened = begun(alloc, game, LIMITS);
+    let mut opened = begun(alloc, game, MOST);
     let right = has_answers(&mut opened, row);
     // A solved game is large: as a call its drop is one step of the proof.
     drop(opened);
@@ -153,7 +161,7 @@ fn has_right_moves(opened: &mut CycleOpened) -> bool {
 
 /// Whether all of these are.
 fn are_moves_right(alloc: Global) -> bool {
-    let mut opened = begun(alloc, ENDLESS, LIMITS);
+    let mut opened = begun(alloc, ENDLESS, MOST);
     let right = has_right_moves(&mut opened);
     drop(opened);
     right
@@ -174,11 +182,11 @@ fn has_too_many(opened: &CycleOpened, point: u16) -> bool {
 
 /// Whether the game has more than seven.
 fn has_more_than_seven(alloc: Global) -> bool {
-    let limits = Limits {
+    let most = Most {
         positions: 7,
-        ..LIMITS
+        ..MOST
     };
-    let opened = begun(alloc, ENDLESS, limits);
+    let opened = begun(alloc, ENDLESS, most);
     let right = has_too_many(&opened, 14);
     drop(opened);
     right

@@ -2,7 +2,7 @@
 
 use crate::asserts::none_wrong;
 use crate::cycle_game_tests::{CycleOpened, begun};
-use crate::worked_games::{ENDLESS, Game, LIMITS, ONE_OPEN};
+use crate::worked_games::{ENDLESS, Game, MOST, ONE_OPEN};
 use cycle_solver::CycleGame;
 use fault_words::Naming;
 use go_grid::Colour;
@@ -126,7 +126,7 @@ fn is_told(alloc: Global, row: &Texts) -> bool {
         side: row.2,
         ..row.0
     };
-    let mut opened = begun(alloc, game, LIMITS);
+    let mut opened = begun(alloc, game, MOST);
     let right = are_told(alloc, &mut opened, row);
     drop(opened);
     right

@@ -4,6 +4,7 @@ ghost use Rattle.std.specs.Prelude.{◌≡◌, ◌<◌, ◌≤◌};
 
 use crate::files::{File, ONE_POINT, shelf_with};
 use crate::runs::{Failing, Outside, sink, source};
+use endgame_solver::Limits;
 use gtp_engine::{Engine, EngineLimits, GtpEnd};
 use local_play::Steps;
 use std::alloc::{AllocError, Global};
@@ -17,13 +18,6 @@ const CORRIDOR: &[u8] =
 /// Two stones of Black's and one of White's in atari, where Black gets half a point and moves.
 const ATARI: &[u8] = b"(;SZ[10:5]KM[-0.5]AB[ba][da:fa][ab:db][ac:fc][ad:fd][hd:id][ae:fe]\
     AW[ga][ia][eb][gb:jb][gc:jc][jd][ge:je])";
-
-const LIMITS: EngineLimits = EngineLimits {
-    positions: 100_000,
-    parts: 500,
-    territory: false,
-    cycles: false,
-};
 
 /// The files of these tests.
 static FILES: [File; 3] = [("c", ONE_POINT), ("corridor", CORRIDOR), ("atari", ATARI)];
@@ -69,7 +63,12 @@ fn counted<L: Ledger>(alloc: Global, outside: &mut Outside, blank: Blank) -> Opt
     requires parts { blank.parts ≡ L.parts }
     requires some { 0 < blank.parts }
 {
-    match Engine::new(alloc, LIMITS) {
+    let limits = EngineLimits {
+        game: Limits::new(100_000, 500)?,
+        territory: false,
+        cycles: false,
+    };
+    match Engine::new(alloc, limits) {
         Ok(mut engine) => {
             let end = engine.run(
                 &mut outside.shelf,

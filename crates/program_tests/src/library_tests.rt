@@ -38,19 +38,17 @@ fn is_answered(solved: &mut Solved) -> bool {
     solved.winner() == Colour::Black && solved.winning_move() == Some(Move::Stone(Point(4)))
 }
 
-/// The game of the call, or want of memory where there is no position.
+/// The game of the call, or want of memory where there are no such limits or no position.
 fn begin<L: Ledger>(alloc: Global, blank: Blank) -> Result<Solved, SolveError>
     requires name { blank.name ≡ L.name }
     requires parts { blank.parts ≡ L.parts }
     requires some { 0 < blank.parts }
 {
-    let limits = Limits {
-        positions: 10_000,
-        parts: 200,
-        tax: false,
+    let Some(limits) = Limits::new(10_000, 200) else {
+        return Err(SolveError::Memory(AllocError));
     };
     match position(alloc) {
-        Some(setup) => Solved::begin(alloc, &setup, &limits, &mut Steps::<L>::new(blank)),
+        Some(setup) => Solved::begin(alloc, &setup, false, &limits, &mut Steps::<L>::new(blank)),
         None => Err(SolveError::Memory(AllocError)),
     }
 }

@@ -2,7 +2,7 @@
 
 use crate::asserts::none_wrong;
 use crate::worked_games::{
-    CORRIDOR, EMPTY, ENDLESS, Game, LIMITS, ONE_OPEN, ONE_POINT, Opened, TWO_OPEN, WITH_STONE,
+    CORRIDOR, EMPTY, ENDLESS, Game, MOST, Most, ONE_OPEN, ONE_POINT, Opened, TWO_OPEN, WITH_STONE,
     begun,
 };
 use endgame_solver::{Limits, SolveError, Solved};
@@ -83,7 +83,7 @@ fn answers_in(opened: &mut Opened) -> Option<Answers> {
 
 /// The answers of a game, if it is solved.
 pub(crate) fn answers_of(alloc: Global, game: Game) -> Option<Answers> {
-    let mut opened = begun(alloc, game, LIMITS);
+    let mut opened = begun(alloc, game, MOST);
     let answers = answers_in(&mut opened);
     // A solved game is large: as a call its drop is one step of the proof.
     drop(opened);
@@ -215,12 +215,11 @@ fn is_refused_so(opened: &Opened, refused: Refused) -> bool {
 
 /// Whether a row is so.
 fn is_refused(alloc: Global, row: &Refusal) -> bool {
-    let limits = Limits {
+    let most = Most {
         positions: row.1,
         parts: row.2,
-        tax: false,
     };
-    let opened = begun(alloc, row.0, limits);
+    let opened = begun(alloc, row.0, most);
     let right = is_refused_so(&opened, row.3);
     drop(opened);
     right
@@ -239,6 +238,42 @@ fn wrong_refusal(alloc: Global) -> Option<usize> {
 #[test]
 fn refusals(rt: HostRuntime) {
     none_wrong(&rt, wrong_refusal(rt.alloc()));
+}
+
+/// The most positions of a region and the most parts of a form, and whether there are such limits.
+type Made = (u32, u32, bool);
+
+static MADE: [Made; 7] = [
+    (0, 500, false),
+    (1, 1, true),
+    (1_000_000, 4_000, true),
+    (1_000_001, 4_000, false),
+    (100_000, 0, false),
+    (100_000, 4_000, true),
+    (100_000, 4_001, false),
+];
+
+/// Whether limits are made of the numbers, with which they say what they were made of.
+fn are_made(positions: u32, parts: u32) -> bool {
+    match Limits::new(positions, parts) {
+        Some(limits) => limits.positions() == positions && limits.parts() == parts,
+        None => false,
+    }
+}
+
+/// The first row that isn't so.
+fn wrong_limits() -> Option<usize> {
+    for (at, row) in MADE.iter().enumerate() {
+        if are_made(row.0, row.1) != row.2 {
+            return Some(at);
+        }
+    }
+    None
+}
+
+#[test]
+fn limits(rt: HostRuntime) {
+    none_wrong(&rt, wrong_limits());
 }
 
 /// Whether a game with one open point refuses two moves.
@@ -273,7 +308,7 @@ fn goes_so(opened: &mut Opened) -> bool {
 
 /// Whether the game with one open point is.
 fn is_played(alloc: Global) -> bool {
-    let mut opened = begun(alloc, ONE_OPEN, LIMITS);
+    let mut opened = begun(alloc, ONE_OPEN, MOST);
     let right = goes_so(&mut opened);
     drop(opened);
     right

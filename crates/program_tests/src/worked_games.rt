@@ -79,10 +79,16 @@ pub(crate) const EMPTY: Game = Game {
     ..ONE_OPEN
 };
 
-pub(crate) const LIMITS: Limits = Limits {
+/// The numbers of limits: the most positions of a region, and the most parts of a form.
+#[derive(Clone, Copy)]
+pub(crate) struct Most {
+    pub positions: u32,
+    pub parts: u32,
+}
+
+pub(crate) const MOST: Most = Most {
     positions: 100_000,
     parts: 500,
-    tax: false,
 };
 
 /// The position of a game, or `None` where its board isn't settled or its komi is too great.
@@ -96,22 +102,22 @@ pub(crate) fn setup(alloc: Global, game: Game) -> Option<Setup> {
     }
 }
 
-/// The solved game, or want of memory where there is no position or a tax.
+/// The solved game, or want of memory where there are no such limits or no position.
 fn begin<L: Ledger>(
     alloc: Global,
     blank: Blank,
     game: Game,
-    limits: Limits,
+    most: Most,
 ) -> Result<Solved, SolveError>
     requires name { blank.name ≡ L.name }
     requires parts { blank.parts ≡ L.parts }
     requires some { 0 < blank.parts }
 {
-    if limits.positions > 1_000_000 || limits.tax {
+    let Some(limits) = Limits::new(most.positions, most.parts) else {
         return Err(SolveError::Memory(AllocError));
-    }
+    };
     match setup(alloc, game) {
-        Some(setup) => Solved::begin(alloc, &setup, &limits, &mut Steps::<L>::new(blank)),
+        Some(setup) => Solved::begin(alloc, &setup, false, &limits, &mut Steps::<L>::new(blank)),
         None => Err(SolveError::Memory(AllocError)),
     }
 }
@@ -123,8 +129,8 @@ pub(crate) struct Opened {
 }
 
 /// The same, whose steps a new ledger counts.
-pub(crate) fn begun(alloc: Global, game: Game, limits: Limits) -> Opened {
+pub(crate) fn begun(alloc: Global, game: Game, most: Most) -> Opened {
     Opened {
-        result: begin::<Brand>(alloc, Blank::new(1), game, limits),
+        result: begin::<Brand>(alloc, Blank::new(1), game, most),
     }
 }

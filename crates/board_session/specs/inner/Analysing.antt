@@ -4,7 +4,7 @@ use Rattle.go_grid.specs.Board.{Board}
 use Rattle.go_grid.specs.Region.{Region}
 use Rattle.go_play.specs.Setup.{Setup}
 use Rattle.whole_rules.specs.WholeGame.{Whole}
-use Rattle.endgame_solver.specs.declared.limits.Limits.{Limits}
+use Rattle.endgame_solver.specs.Limits.{Limits}
 use Rattle.board_session.specs.declared.topic.Analysis.{Analysis}
 use Rattle.board_session.specs.declared.topic.CycleTopic.{CycleTopic}
 use Rattle.board_session.specs.declared.topic.Status.{Status}

@@ -7,7 +7,7 @@ use Rattle.sgf_go.specs.Komi.{IsInRange}
 use Rattle.go_play.specs.Setup.{HasFewPrisoners}
 use Rattle.gtp_words.specs.declared.loading.Loading.{Loading}
 use Rattle.gtp_words.specs.declared.loading.Loading.TheVariants.{Failed, Nothing, Position}
-use Rattle.endgame_solver.specs.declared.limits.Limits.{Limits}
+use Rattle.endgame_solver.specs.Limits.{Limits}
 use Rattle.board_session.specs.declared.position.BoardMove.{BoardMove}
 use Rattle.board_session.specs.declared.position.MadeMove.{MadeMove}
 use Rattle.board_session.specs.declared.position.Position.{Position as BoardPosition}

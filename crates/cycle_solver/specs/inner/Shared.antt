@@ -8,7 +8,7 @@ use Rattle.region_book.specs.declared.shapes.Turn.{Turn}
 use Rattle.region_book.specs.declared.spots.Spot.{Spot}
 use Rattle.short_games.specs.Tree.{Tree}
 use Rattle.game_store.specs.Meaning.{AreIds}
-use Rattle.endgame_solver.specs.declared.limits.Limits.{Limits}
+use Rattle.endgame_solver.specs.Limits.{Limits}
 use Rattle.endgame_solver.specs.inner.Sharing.{AreNegatives, PairsWith}
 use Rattle.cycle_solver.specs.declared.book.Book.{Book}
 use Rattle.cycle_solver.specs.declared.region_game.RegionGame.{RegionGame}

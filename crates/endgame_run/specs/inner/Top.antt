@@ -13,7 +13,7 @@ use Rattle.gd_words.specs.declared.job.Question.{Question}
 use Rattle.gd_words.specs.declared.job.Question.TheVariants as question
 use Rattle.endgame_solver.specs.Solved.{Solved}
 use Rattle.engine_player.specs.Opening.{OpensGame}
-use Rattle.endgame_solver.specs.declared.limits.Limits.{Limits}
+use Rattle.endgame_run.specs.declared.terms.GameTerms.{GameTerms}
 use Rattle.gtp_words.specs.declared.end.GtpEnd.{GtpEnd}
 use Rattle.gtp_words.specs.declared.end.GtpEnd.TheVariants as end
 use Rattle.fault_words.specs.declared.naming.Naming.TheVariants.{Letters}
@@ -23,7 +23,7 @@ use Rattle.report.specs.Solution.{IsSolveText}
 use Rattle.report.specs.Values.{IsFirstUnshown, IsValuesText}
 use Rattle.endgame_run.specs.Cycles.{IsGameText}
 use Rattle.endgame_run.specs.Game.{IsEngine, IsGame, question_of_game}
-use Rattle.endgame_run.specs.Limits.{board_limits, engine_limits, limits_of}
+use Rattle.endgame_run.specs.Limits.{board_limits, engine_limits, terms_of}
 use Rattle.endgame_run.specs.Question.{IsAnswer, IsPositionAnswer}
 use Rattle.endgame_run.specs.Refusal.{form_line}
 use Rattle.endgame_run.specs.Written.{Finishes}
@@ -37,8 +37,8 @@ use Rattle.endgame_run.specs.declared.status.Status.TheVariants.{CannotRead, Can
 -- the job asks a question within its limits, or for a game, with its colour for the engine, for the board of a number, for the answer to
 -- an expression within its limit of parts, or for the engine within its limits, with a board of its own or without
 abbrev pub IsAsked : Job → Asked → Type 0
-IsAsked job (asked.Answer inquiry) = (job.task ≡ ask inquiry.question inquiry.word.now) × (inquiry.limits ≡ limits_of job)
-IsAsked job (asked.Game game) = (job.task ≡ play game.word.now) × (game.limits ≡ limits_of job) × (game.cycles ≡ job.cycles) × (game.engine ≡ job.engine)
+IsAsked job (asked.Answer inquiry) = (job.task ≡ ask inquiry.question inquiry.word.now) × (inquiry.terms ≡ terms_of job)
+IsAsked job (asked.Game game) = (job.task ≡ play game.word.now) × (game.terms ≡ terms_of job) × (game.cycles ≡ job.cycles) × (game.engine ≡ job.engine)
 IsAsked job (asked.Trial number) = job.task ≡ trial number
 IsAsked job (asked.Calc line) = (job.task ≡ calc line.expression.now) × (line.parts ≡ job.parts)
 IsAsked job (asked.Gtp limits) = (job.task ≡ gtp) × (job.keep_board ≡ false) × (limits ≡ engine_limits job)
@@ -80,14 +80,14 @@ IsCycleReport cycle.Values k game s text = IsCycleValuesReport game s text
 IsCycleReport q k game s text = (s ≡ Done) × IsGameText q k game text
 
 -- a session that begins with the position, or the report of what keeps it from being solved
-abbrev pub IsBegun : Limits → Bool → Option Colour → Setup → Opened → Type 0
-IsBegun limits cycles given setup (Game session) = IsSettled setup.board × OpensGame cycles limits setup session.game × IsEngine given setup session.engine
+abbrev pub IsBegun : GameTerms → Bool → Option Colour → Setup → Opened → Type 0
+IsBegun terms cycles given setup (Game session) = IsSettled setup.board × OpensGame cycles terms.limits terms.tax setup session.game × IsEngine given setup session.engine
     × (session.held ≡ [])
-IsBegun limits cycles given setup (Fault report) = IsPositionAnswer (question_of_game cycles) limits setup report.status report.text
+IsBegun terms cycles given setup (Fault report) = IsPositionAnswer (question_of_game cycles) terms setup report.status report.text
     × (report.status ≢ Done)
 
 -- a session that begins with the position of the file of the word, or the report of what keeps it from being solved
-abbrev pub IsOpened : Limits → Bool → Option Colour → Settings → List ℕ → Input → Input → Opened → Type 0
-IsOpened limits cycles given settings word i j (Game session) = IsGame limits cycles given settings word i session.engine session.game × (session.held ≡ [])
-IsOpened limits cycles given settings word i j (Fault report) = IsAnswer (question_of_game cycles) limits settings word i j report.status report.text
+abbrev pub IsOpened : GameTerms → Bool → Option Colour → Settings → List ℕ → Input → Input → Opened → Type 0
+IsOpened terms cycles given settings word i j (Game session) = IsGame terms cycles given settings word i session.engine session.game × (session.held ≡ [])
+IsOpened terms cycles given settings word i j (Fault report) = IsAnswer (question_of_game cycles) terms settings word i j report.status report.text
     × (report.status ≢ Done)

@@ -17,7 +17,7 @@ use Rattle.endgame_solver.specs.ShapeValues.{game_after}
 use Rattle.endgame_solver.specs.Solved.{IsNumberOfShapes}
 use Rattle.endgame_solver.specs.inner.Solving.{AreSolvedBelow, IsSolvedBy}
 use Rattle.endgame_solver.specs.inner.Views.{AreViews}
-use Rattle.endgame_solver.specs.declared.limits.Limits.{Limits}
+use Rattle.endgame_solver.specs.Limits.{Limits}
 use Rattle.endgame_solver.specs.declared.view_book.Book.{Book}
 use Rattle.endgame_solver.specs.declared.view_book.Kind.{Kind}
 use Rattle.endgame_solver.specs.declared.views.View.{View}

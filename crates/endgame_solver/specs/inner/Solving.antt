@@ -10,7 +10,7 @@ use Rattle.endgame_solver.specs.Regions.{region_at}
 use Rattle.endgame_solver.specs.inner.Regions.{graph_at}
 use Rattle.endgame_solver.specs.Faults.{IsFaultOf, IsSound}
 use Rattle.endgame_solver.specs.inner.Held.{ids_at, most_units}
-use Rattle.endgame_solver.specs.declared.limits.Limits.{Limits}
+use Rattle.endgame_solver.specs.Limits.{Limits}
 use Rattle.endgame_solver.specs.declared.faults.SolveError.{SolveError}
 use Rattle.endgame_solver.specs.declared.faults.SolveError.TheVariants.{Memory}
 

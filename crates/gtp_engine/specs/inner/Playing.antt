@@ -1,11 +1,11 @@
 -- What moves in a running game come to.
-use Rattle.std.specs.Prelude.{◌≡◌, ℕ, List, Bool, Option, Some, None}
+use Rattle.std.specs.Prelude.{◌≡◌, ℕ, List, Bool, Option, Some, None, false}
 use Rattle.go_play.specs.Setup.{Setup}
 use Rattle.cycle_solver.specs.declared.faults.CycleError.{CycleError}
 use Rattle.cycle_solver.specs.declared.faults.CycleError.TheVariants as unsteady
 use Rattle.engine_player.specs.EngineGame.{EngineGame}
 use Rattle.engine_player.specs.Opening.{OpensGame, OpensNone}
-use Rattle.endgame_solver.specs.declared.limits.Limits.{Limits}
+use Rattle.endgame_solver.specs.Limits.{Limits}
 use Rattle.endgame_solver.specs.declared.faults.SolveError.{SolveError}
 use Rattle.endgame_solver.specs.declared.faults.SolveError.TheVariants.{Memory}
 use Rattle.gtp_engine.specs.declared.playing.Action.{Action}
@@ -22,9 +22,9 @@ abbrev pub IsCycleFault : CycleError → Type 0
 IsCycleFault (unsteady.Memory e) = ⊥
 IsCycleFault fault = Unit {0}
 
--- the game that the setup opens, or that it can't be opened
+-- the game that the setup opens without a tax, or that it can't be opened
 abbrev pub IsOpened : Bool → Limits → Setup → Option EngineGame → Type 0
-IsOpened cycles limits setup (Some game) = OpensGame cycles limits setup game
+IsOpened cycles limits setup (Some game) = OpensGame cycles limits false setup game
 IsOpened cycles limits setup None = OpensNone cycles limits setup
 
 -- what is said to an action in a running game, and the game after it

@@ -12,7 +12,7 @@ use Rattle.board_session.proofs.advice.open.Goals as goal
 
 pub fault_words-requires : goal.fault_words-requires
 fault_words-requires g c =
-    subst (λ n. NamesPoints n c.in-Err.fault) (sym (c.size-size.ensures.area ∙ ap (λ g. length g.cells) c.board.ensures.board)) (names_points c.args.setup.now c.args.limits.now c.in-Err.fault c.in-Err.ensures.begun)
+    subst (λ n. NamesPoints n c.in-Err.fault) (sym (c.size-size.ensures.area ∙ ap (λ g. length g.cells) c.board.ensures.board)) (names_points c.args.setup.now false c.args.limits.now c.in-Err.fault c.in-Err.ensures.begun)
 
 pub returns-in-Ok-clause-advised : goal.returns-in-Ok-clause-advised
 returns-in-Ok-clause-advised g c =

@@ -1,5 +1,7 @@
-use Rattle.std.proofs.Common.{◌∙◌, ap, get_or}
+use Rattle.std.proofs.Common.{◌∙◌, ap, get_or, subst}
 use Rattle.std.proofs.lemmas.List.{get_or_default}
+use Rattle.game_canon.specs.declared.errors.FormError.TheVariants.{Bounds, Parts}
+use Rattle.local_value.specs.BudgetValues.{IsPastLimits}
 use Rattle.cycle_solver.proofs.GameLaws.{past_bounds, past_parts}
 use Rattle.cycle_solver.proofs.region_game.values_of.Goals as goal
 
@@ -8,16 +10,40 @@ returns-in-Err-Form-Parts-clause-refusal c =
     let r = c.args.region.now in
     let held = c.requires.graph in
     let (k, le, needed, past) =
-    rw (c.in-Err-Form-Parts.field-0-is, c.in-Err-Form-Parts.field-0-0-is) at (c.in-Err-Form-Parts.ensures.valued r held.graph) in
-    (c.index-lowest.ensures ∙ get_or_default c.region.inside.points.items 0 c.index-lowest.result.now 0 c.region.invariant.some ∙ ap (λ z. get_or z.points 0 0) c.region.view_is, held.positions, (c.args.colour, (k, le, needed, past_parts r c.args.graph.now held.graph c.args.colour c.args.limits.now.parts k past)))
+    rw (c.in-Err-Form-Parts.field-0-is, c.in-Err-Form-Parts.field-0-0-is) at (c.in-Err-Form-Parts.ensures.valued r held.graph) in (
+      c.index-lowest.ensures ∙ get_or_default c.region.inside.points.items 0 c.index-lowest.result.now 0 c.region.invariant.some ∙ ap (λ z. get_or z.points 0 0) c.region.view_is,
+      held.positions,
+      (
+        c.args.colour,
+        (
+          k,
+          le,
+          needed,
+          past_parts r c.args.graph.now held.graph c.args.colour c.args.limits.now.parts k
+              (subst (λ n. IsPastLimits r c.args.graph.now c.args.colour n k Parts) c.parts.ensures.value past),
+        ),
+      ),
+    )
 
 pub returns-in-Err-Form-Bounds-clause-refusal : goal.returns-in-Err-Form-Bounds-clause-refusal
 returns-in-Err-Form-Bounds-clause-refusal c =
     let r = c.args.region.now in
     let held = c.requires.graph in
     let (k, le, needed, past) =
-    rw (c.in-Err-Form-Bounds.field-0-is, c.in-Err-Form-Bounds.field-0-0-is) at (c.in-Err-Form-Bounds.ensures.valued r held.graph) in
-    (c.index-lowest.ensures ∙ get_or_default c.region.inside.points.items 0 c.index-lowest.result.now 0 c.region.invariant.some ∙ ap (λ z. get_or z.points 0 0) c.region.view_is, held.positions, (c.args.colour, (k, le, needed, past_bounds r c.args.graph.now held.graph c.args.colour c.args.limits.now.parts k past)))
+    rw (c.in-Err-Form-Bounds.field-0-is, c.in-Err-Form-Bounds.field-0-0-is) at (c.in-Err-Form-Bounds.ensures.valued r held.graph) in (
+      c.index-lowest.ensures ∙ get_or_default c.region.inside.points.items 0 c.index-lowest.result.now 0 c.region.invariant.some ∙ ap (λ z. get_or z.points 0 0) c.region.view_is,
+      held.positions,
+      (
+        c.args.colour,
+        (
+          k,
+          le,
+          needed,
+          past_bounds r c.args.graph.now held.graph c.args.colour c.args.limits.now.parts k
+              (subst (λ n. IsPastLimits r c.args.graph.now c.args.colour n k Bounds) c.parts.ensures.value past),
+        ),
+      ),
+    )
 
 pub returns-in-Ok-clause-refusal : goal.returns-in-Ok-clause-refusal
 returns-in-Ok-clause-refusal c = tt

@@ -9,24 +9,24 @@ use Rattle.cycle_solver.proofs.region_game.values_of_both.Goals as goal
 
 pub returns-then-not-has_cycle-clause-solved : goal.returns-then-not-has_cycle-clause-solved
 returns-then-not-has_cycle-clause-solved c =
-    alone_solved c.args.limits.now c.args.most (omega (arith, c.ranges.most.fits)) c.args.region.now c.args.graph.now c.requires.points c.requires.graph c.requires.limit
+    alone_solved c.args.limits.now c.args.most (omega (arith, c.ranges.most.fits)) c.args.region.now c.args.graph.now c.requires.points c.requires.graph c.positions-most.ensures.range.few_positions
     c.values_of.new.store (c.has_cycle.ensures.0 c.if-not-has_cycle.true) c.in_ok-black.black c.in_ok-black.ensures.values c.alone.result c.alone.ensures.values
 
 pub returns-then-not-has_cycle-clause-refusal : goal.returns-then-not-has_cycle-clause-refusal
 returns-then-not-has_cycle-clause-refusal c =
-    alone_refused c.args.limits.now c.args.most (omega (arith, c.ranges.most.fits)) c.args.region.now c.args.graph.now c.requires.points c.requires.graph c.requires.limit
+    alone_refused c.args.limits.now c.args.most (omega (arith, c.ranges.most.fits)) c.args.region.now c.args.graph.now c.requires.points c.requires.graph c.positions-most.ensures.range.few_positions
     c.values_of.new.store (c.has_cycle.ensures.0 c.if-not-has_cycle.true) c.in_ok-black.black c.in_ok-black.ensures.values c.alone.result c.index-lowest.result.now c.alone.ensures.refusal
 
 pub returns-in-Ok-clause-solved : goal.returns-in-Ok-clause-solved
 returns-in-Ok-clause-solved c =
-    together_solved c.args.limits.now c.args.most (omega (arith, c.ranges.most.fits)) c.args.region.now c.args.graph.now c.requires.points c.requires.graph c.requires.limit
+    together_solved c.args.limits.now c.args.most (omega (arith, c.ranges.most.fits)) c.args.region.now c.args.graph.now c.requires.points c.requires.graph c.positions-most.ensures.range.few_positions
     c.values_of-2.new.store c.in_ok-black.black c.in-Ok.white
     (maybe_later c.args.limits.now c.args.most c.args.region.now c.args.graph.now Black c.values_of.new.store c.values_of-2.new.store c.in_ok-black.black (c.in-Ok.ensures {u = tt}).kept c.in_ok-black.ensures.values)
     (c.in-Ok.ensures {u = tt}).values c.together.result c.together.ensures.values
 
 pub returns-in-Ok-clause-refusal : goal.returns-in-Ok-clause-refusal
 returns-in-Ok-clause-refusal c =
-    together_refused c.args.limits.now c.args.most (omega (arith, c.ranges.most.fits)) c.args.region.now c.args.graph.now c.requires.points c.requires.graph c.requires.limit
+    together_refused c.args.limits.now c.args.most (omega (arith, c.ranges.most.fits)) c.args.region.now c.args.graph.now c.requires.points c.requires.graph c.positions-most.ensures.range.few_positions
     c.values_of-2.new.store c.in_ok-black.black c.in-Ok.white
     (maybe_later c.args.limits.now c.args.most c.args.region.now c.args.graph.now Black c.values_of.new.store c.values_of-2.new.store c.in_ok-black.black (c.in-Ok.ensures {u = tt}).kept c.in_ok-black.ensures.values)
     (c.in-Ok.ensures {u = tt}).values c.together.result c.index-lowest.result.now
@@ -68,14 +68,12 @@ values_of-requires-clause-points c = c.requires.points
 pub values_of-requires-clause-graph : goal.values_of-requires-clause-graph
 values_of-requires-clause-graph c = c.requires.graph
 
-pub values_of-requires-clause-limit : goal.values_of-requires-clause-limit
-values_of-requires-clause-limit c = c.requires.limit
-
 pub values_of-requires-2-clause-points : goal.values_of-requires-2-clause-points
 values_of-requires-2-clause-points c = c.requires.points
 
 pub values_of-requires-2-clause-graph : goal.values_of-requires-2-clause-graph
 values_of-requires-2-clause-graph c = c.requires.graph
+<<<<<<< HEAD
 
 pub values_of-requires-2-clause-limit : goal.values_of-requires-2-clause-limit
 values_of-requires-2-clause-limit c = c.requires.limit
@@ -85,3 +83,5 @@ values_of-requires-clause-memo c = c.requires.memo
 
 pub values_of-requires-2-clause-memo : goal.values_of-requires-2-clause-memo
 values_of-requires-2-clause-memo c = c.in_ok-black.ensures.memo
+=======
+>>>>>>> fbd018080e37b390ea77f1951d302914fd9ac7af

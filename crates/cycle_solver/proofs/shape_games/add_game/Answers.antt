@@ -92,9 +92,6 @@ pub game_of_shape-requires-clause-points : goal.game_of_shape-requires-clause-po
 game_of_shape-requires-clause-points g c =
     subst (λ (z : Region). length z.points ≤ 32) (sym (get_or_read c.args.regions.now c.args.number c.index-regions-number.result c.requires.number c.index-regions-number.is no_region)) c.requires.points
 
-pub game_of_shape-requires-clause-limit : goal.game_of_shape-requires-clause-limit
-game_of_shape-requires-clause-limit g c = c.requires.limit
-
 pub game_of_shape-requires-clause-shape : goal.game_of_shape-requires-clause-shape
 game_of_shape-requires-clause-shape g c = c.in_ok-kind.ensures
 

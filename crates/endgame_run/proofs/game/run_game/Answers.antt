@@ -14,7 +14,7 @@ returns-in-Ok-Game-clause-ran g c =
     let b = known o (desk c.open_game.new.shelf c.play-status.new.lines c.play-status.new.out) in
     let session = c.in-Ok-Game.session in
     let same = c.in-Ok-Game.ensures.reads.lines_unread c.requires.apart in record {
-      outcome = inr (opened_game c.args.game.now.limits c.args.game.now.cycles c.args.game.now.engine c.args.settings.now c.args.game.now.word.now a b (input_of g.H.Shelf g.S.Source c.open_game.new.shelf c.open_game.new.lines) c.play-status.result c.in-Ok-Game.field-0 session c.in-Ok-Game.field-0-is
+      outcome = inr (opened_game c.args.game.now.terms c.args.game.now.cycles c.args.game.now.engine c.args.settings.now c.args.game.now.word.now a b (input_of g.H.Shelf g.S.Source c.open_game.new.shelf c.open_game.new.lines) c.play-status.result c.in-Ok-Game.field-0 session c.in-Ok-Game.field-0-is
           c.in-Ok-Game.ensures.opened
           (subst (λ l. IsPlayRun session.engine session.game (g.S.Source.left l) (g.S.Source.faults l) (g.S.Source.faults c.play-status.new.lines) (g.K.Sink.faults c.args.out.now) (g.K.Sink.faults c.play-status.new.out)
           (g.K.Sink.holds c.args.out.now) (g.K.Sink.holds c.play-status.new.out) c.play-status.result) same c.play-status.ensures.played));
@@ -45,7 +45,7 @@ returns-in-Ok-Fault-clause-ran g c =
         inr (
           report.status,
           report.text,
-          opened_fault c.args.game.now.limits c.args.game.now.cycles c.args.game.now.engine c.args.settings.now c.args.game.now.word.now i j c.in-Ok-Fault.field-0 report
+          opened_fault c.args.game.now.terms c.args.game.now.cycles c.args.game.now.engine c.args.settings.now c.args.game.now.word.now i j c.in-Ok-Fault.field-0 report
               c.in-Ok-Fault.field-0-is c.in-Ok-Fault.ensures.opened,
           finishes_as _ _ _ _ _ _ _ c.finish.result c.as_slice.ensures c.finish.ensures.written,
         ),
@@ -71,6 +71,6 @@ returns-in-Err-clause-later g c = record { input = c.in-Err.ensures.reads.later;
 
 pub play-status-requires-clause-room : goal.play-status-requires-clause-room
 play-status-requires-clause-room g c =
-    opened_room c.args.game.now.limits c.args.game.now.cycles c.args.game.now.engine c.args.settings.now c.args.game.now.word.now
+    opened_room c.args.game.now.terms c.args.game.now.cycles c.args.game.now.engine c.args.settings.now c.args.game.now.word.now
     (input_of g.H.Shelf g.S.Source c.args.shelf.now c.args.lines.now) (input_of g.H.Shelf g.S.Source c.open_game.new.shelf c.open_game.new.lines)
     c.in-Ok-Game.field-0 c.in-Ok-Game.session c.in-Ok-Game.field-0-is c.in-Ok-Game.ensures.opened

@@ -9,11 +9,11 @@ use Rattle.endgame_run.proofs.opening.begin_plain.Goals as goal
 
 pub refused-requires : goal.refused-requires
 refused-requires g c =
-    subst (λ n. NamesPoints n c.in-Err.fault) (sym (c.size-size.ensures.area ∙ ap (λ g. length g.cells) c.board.ensures.board)) (names_points c.args.setup.now c.args.limits.now c.in-Err.fault c.in-Err.ensures.begun)
+    subst (λ n. NamesPoints n c.in-Err.fault) (sym (c.size-size.ensures.area ∙ ap (λ g. length g.cells) c.board.ensures.board)) (names_points c.args.setup.now c.args.terms.now.tax c.args.terms.now.limits c.in-Err.fault c.in-Err.ensures.begun)
 
 pub returns-in_ok-report-in-Err-clause-begun : goal.returns-in_ok-report-in-Err-clause-begun
 returns-in_ok-report-in-Err-clause-begun g c =
     let report = c.in_ok-report-in-Err in
-    refused_answer Solve c.args.limits.now c.args.setup.now report.report.status report.report.text tt tt
-    (is_refused c.args.setup.now c.args.limits.now c.in-Err.fault report.report.status report.report.text c.in-Err.ensures.begun report.ensures.status
-    (report.ensures.text ∙ ap (λ n. refusal_line c.args.limits.now n c.in-Err.fault) (c.size-size.ensures.columns ∙ ap (λ g. g.columns) c.board.ensures.board)))
+    refused_answer Solve c.args.terms.now c.args.setup.now report.report.status report.report.text tt tt
+    (is_refused c.args.setup.now c.args.terms.now c.in-Err.fault report.report.status report.report.text c.in-Err.ensures.begun report.ensures.status
+    (report.ensures.text ∙ ap (λ n. refusal_line c.args.terms.now.limits n c.in-Err.fault) (c.size-size.ensures.columns ∙ ap (λ g. g.columns) c.board.ensures.board)))

@@ -10,7 +10,7 @@ pub returns-in-Answer-clause-ran : goal.returns-in-Answer-clause-ran
 returns-in-Answer-clause-ran g c =
     let own = subst (IsAsked (viewed c.args.job.now)) c.in-Answer.is c.asked.ensures in
     question_runs (outside g.H.Shelf g.S.Source g.K.Sink) (viewed c.args.job.now) (desk c.args.shelf.now c.args.lines.now c.args.out.now) c.run_question.result
-    (desk c.run_question.new.shelf c.run_question.new.lines c.run_question.new.out) c.in-Answer.inquiry.question c.in-Answer.inquiry.limits c.in-Answer.inquiry.word.now
+    (desk c.run_question.new.shelf c.run_question.new.lines c.run_question.new.out) c.in-Answer.inquiry.question c.in-Answer.inquiry.terms c.in-Answer.inquiry.word.now
     own.0 own.1 c.run_question.ensures.ran
 
 pub returns-in-Answer-clause-steps : goal.returns-in-Answer-clause-steps
@@ -18,13 +18,13 @@ returns-in-Answer-clause-steps g c =
     let own = subst (IsAsked (viewed c.args.job.now)) c.in-Answer.is c.asked.ensures in
     question_steps (viewed c.args.job.now) (input_of g.H.Shelf g.S.Source c.args.shelf.now c.args.lines.now)
     (input_of g.H.Shelf g.S.Source c.run_question.new.shelf c.run_question.new.lines) c.args.steps.now c.run_question.new.steps c.in-Answer.inquiry.question
-    c.in-Answer.inquiry.limits c.in-Answer.inquiry.word.now own.0 own.1 c.run_question.ensures.steps
+    c.in-Answer.inquiry.terms c.in-Answer.inquiry.word.now own.0 own.1 c.run_question.ensures.steps
 
 pub returns-in-Game-clause-ran : goal.returns-in-Game-clause-ran
 returns-in-Game-clause-ran g c =
     let own = subst (IsAsked (viewed c.args.job.now)) c.in-Game.is c.asked.ensures in
     game_runs (outside g.H.Shelf g.S.Source g.K.Sink) (viewed c.args.job.now) (desk c.args.shelf.now c.args.lines.now c.args.out.now) c.run_game.result
-    (desk c.run_game.new.shelf c.run_game.new.lines c.run_game.new.out) c.in-Game.game.limits c.in-Game.game.cycles c.in-Game.game.engine c.in-Game.game.word.now own.0 own.1
+    (desk c.run_game.new.shelf c.run_game.new.lines c.run_game.new.out) c.in-Game.game.terms c.in-Game.game.cycles c.in-Game.game.engine c.in-Game.game.word.now own.0 own.1
     own.2 own.3 c.run_game.ensures.ran
 
 pub returns-in-Game-clause-steps : goal.returns-in-Game-clause-steps
@@ -32,7 +32,7 @@ returns-in-Game-clause-steps g c =
     let own = subst (IsAsked (viewed c.args.job.now)) c.in-Game.is c.asked.ensures in
     game_steps (viewed c.args.job.now) (input_of g.H.Shelf g.S.Source c.args.shelf.now c.args.lines.now)
     (input_of g.H.Shelf g.S.Source c.run_game.new.shelf c.run_game.new.lines) c.args.steps.now c.run_game.new.steps
-    c.in-Game.game.cycles c.in-Game.game.limits c.in-Game.game.word.now own.0 own.1 own.2 c.run_game.ensures.steps
+    c.in-Game.game.cycles c.in-Game.game.terms c.in-Game.game.word.now own.0 own.1 own.2 c.run_game.ensures.steps
 
 pub returns-in-Trial-clause-ran : goal.returns-in-Trial-clause-ran
 returns-in-Trial-clause-ran g c =

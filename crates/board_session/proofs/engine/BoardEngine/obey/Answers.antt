@@ -4,8 +4,6 @@ use Rattle.gtp_words.proofs.AskingLemmas.{asked_none}
 use Rattle.board_session.specs.Asking.{OrderNames}
 use Rattle.board_session.specs.Orders.BoardOrder.{analyse, genmove, reg_genmove}
 use Rattle.board_session.specs.inner.Viewed.{order_of}
-use Rattle.board_session.specs.inner.Analysing.{IsReported}
-use Rattle.board_session.specs.inner.Doing.{IsGenerated, IsSuggested}
 use Rattle.board_session.specs.inner.Obeying.{IsObeyed}
 use Rattle.board_session.proofs.AnswerLemmas.{generated_obeyed, plain_obeyed, plain_same, reported_obeyed, suggested_obeyed}
 use Rattle.board_session.proofs.AskingLemmas.{plain_names}
@@ -29,21 +27,21 @@ returns-in-GenMove-clause-obeyed g c =
     let inside = c.self.inside in let u = c.generate.new.self in let colour = c.in-GenMove.colour in let id = c.args.id.now in
     generated_obeyed inside.limits inside.loads inside.session u c.args.self.now c.self.view_is (g.H.Shelf.files c.args.shelf.now) (g.H.Shelf.faults c.args.shelf.now) id
     (order_of c.args.request) colour (ap order_of c.in-GenMove.is) c.generate.result
-    (subst (λ l. IfOk c.generate.result (λ reply. IsGenerated inside.limits.cycles l colour id inside.session reply u)) c.of_game-limits.ensures c.generate.ensures.generated)
+    c.generate.ensures.generated
 
 pub returns-in-RegGenMove-clause-obeyed : goal.returns-in-RegGenMove-clause-obeyed
 returns-in-RegGenMove-clause-obeyed g c =
     let inside = c.self-in-RegGenMove.inside in let colour = c.in-RegGenMove.colour in let id = c.args.id.now in
     suggested_obeyed inside.limits inside.loads inside.session inside.session c.args.self.now c.self-in-RegGenMove.view_is (g.H.Shelf.files c.args.shelf.now) (g.H.Shelf.faults c.args.shelf.now) id
     (order_of c.args.request) colour (ap order_of c.in-RegGenMove.is) c.suggest.result
-    (subst (λ l. IfOk c.suggest.result (λ reply. IsSuggested inside.limits.cycles l colour id inside.session reply)) c.of_game-limits-in-RegGenMove.ensures c.suggest.ensures.suggested)
+    c.suggest.ensures.suggested
 
 pub returns-in-Analyse-clause-obeyed : goal.returns-in-Analyse-clause-obeyed
 returns-in-Analyse-clause-obeyed g c =
     let inside = c.self-in-Analyse.inside in let analysis = c.in-Analyse.analysis in let id = c.args.id.now in
     reported_obeyed inside.limits inside.loads inside.session inside.session c.args.self.now c.self-in-Analyse.view_is (g.H.Shelf.files c.args.shelf.now) (g.H.Shelf.faults c.args.shelf.now) id
     (order_of c.args.request) analysis (ap order_of c.in-Analyse.is) c.report.result
-    (subst (λ l. IfOk c.report.result (IsReported inside.limits.cycles l analysis id inside.session)) c.of_game-limits-in-Analyse.ensures c.report.ensures.reported)
+    c.report.ensures.reported
 
 pub returns-in-LoadSgf-clause-same : goal.returns-in-LoadSgf-clause-same
 returns-in-LoadSgf-clause-same g c = c.load_file.ensures.same
@@ -82,17 +80,17 @@ returns-in-LoadSgf-clause-asked g c =
 pub returns-in-GenMove-clause-steps : goal.returns-in-GenMove-clause-steps
 returns-in-GenMove-clause-steps g c =
     let inside = c.self.inside in
-    solver_steps inside.limits inside.loads inside.session c.args.self.now c.self.view_is c.of_game-limits.result c.of_game-limits.ensures (order_of c.args.request) (genmove c.in-GenMove.colour) (ap order_of c.in-GenMove.is) tt
+    solver_steps inside.limits inside.loads inside.session c.args.self.now c.self.view_is (order_of c.args.request) (genmove c.in-GenMove.colour) (ap order_of c.in-GenMove.is) tt
     c.args.steps.now c.generate.new.steps c.generate.ensures.steps
 
 pub returns-in-RegGenMove-clause-steps : goal.returns-in-RegGenMove-clause-steps
 returns-in-RegGenMove-clause-steps g c =
     let inside = c.self-in-RegGenMove.inside in
-    solver_steps inside.limits inside.loads inside.session c.args.self.now c.self-in-RegGenMove.view_is c.of_game-limits-in-RegGenMove.result c.of_game-limits-in-RegGenMove.ensures (order_of c.args.request) (reg_genmove c.in-RegGenMove.colour) (ap order_of c.in-RegGenMove.is) tt
+    solver_steps inside.limits inside.loads inside.session c.args.self.now c.self-in-RegGenMove.view_is (order_of c.args.request) (reg_genmove c.in-RegGenMove.colour) (ap order_of c.in-RegGenMove.is) tt
     c.args.steps.now c.suggest.new.steps c.suggest.ensures.steps
 
 pub returns-in-Analyse-clause-steps : goal.returns-in-Analyse-clause-steps
 returns-in-Analyse-clause-steps g c =
     let inside = c.self-in-Analyse.inside in
-    solver_steps inside.limits inside.loads inside.session c.args.self.now c.self-in-Analyse.view_is c.of_game-limits-in-Analyse.result c.of_game-limits-in-Analyse.ensures (order_of c.args.request) (analyse c.in-Analyse.analysis) (ap order_of c.in-Analyse.is) tt
+    solver_steps inside.limits inside.loads inside.session c.args.self.now c.self-in-Analyse.view_is (order_of c.args.request) (analyse c.in-Analyse.analysis) (ap order_of c.in-Analyse.is) tt
     c.args.steps.now c.report.new.steps c.report.ensures.steps

@@ -9,7 +9,7 @@ use Rattle.cycle_solver.proofs.cycle_game.CycleGame.begin.Goals as goal
 pub returns-in_err-found-clause-begun : goal.returns-in_err-found-clause-begun
 returns-in_err-found-clause-begun g c =
     let p = err_from_is_err_and c.from_residual-in_err-found.result c.from_residual-in_err-found.ensures.1 in
-    rw (p.1, p.2) (refusal_begun c.args.setup.now c.args.limits.now c.args.most c.in_ok-opening.ensures.regions c.deref.ensures.value _ c.in_err-found.ensures.refusal)
+    rw (p.1, p.2) (refusal_begun c.args.setup.now c.args.tax c.args.limits.now c.args.most c.in_ok-opening.ensures.regions c.deref.ensures.value _ c.in_err-found.ensures.refusal)
 
 pub returns-in_err-found-clause-steps : goal.returns-in_err-found-clause-steps
 returns-in_err-found-clause-steps g c =

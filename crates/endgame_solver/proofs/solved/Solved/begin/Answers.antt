@@ -9,7 +9,7 @@ use Rattle.endgame_solver.proofs.solved.Solved.begin.Goals as goal
 pub returns-in_err-found-clause-begun : goal.returns-in_err-found-clause-begun
 returns-in_err-found-clause-begun g c =
     let p = err_from_is_err_and c.from_residual-in_err-found.result c.from_residual-in_err-found.ensures.1 in
-    rw (p.1, p.2) (refusal_begun c.args.setup.now c.args.limits.now c.in_ok-opening.ensures.regions c.deref.ensures.value _ c.in_err-found.ensures.refusal)
+    rw (p.1, p.2) (refusal_begun c.args.setup.now c.args.tax c.args.limits.now c.in_ok-opening.ensures.regions c.deref.ensures.value _ c.in_err-found.ensures.refusal)
 
 pub returns-in_err-found-clause-steps : goal.returns-in_err-found-clause-steps
 returns-in_err-found-clause-steps g c =
@@ -27,7 +27,7 @@ invariant_of-result g c =
         values = shared.values;
         views_are = shared.views_are;
         shapes = shared.shapes;
-        kept = is_kept made.fit.settled made.regions made.local made.few c.requires.positions shared.solved made.opens
+        kept = is_kept made.fit.settled made.regions made.local made.few c.positions-most.ensures.range.few_positions shared.solved made.opens
             (solved.places ∙ ap (λ n. replicate n 0) shared.views_are.many)
             (sum_is found.book shared.graphs shared.values (length regions) _ shared.views_are shared.solved.as_many_values solved.long solved.each)
             made.fit.black made.fit.white made.fit.komi;

@@ -1,0 +1,10 @@
+//! How a position is opened.
+
+use endgame_solver::Limits;
+
+/// Within which limits a position is opened, and whether there is a tax.
+#[derive(Clone, Copy)]
+pub(crate) struct GameTerms {
+    pub limits: Limits,
+    pub tax: bool,
+}
