@@ -77,11 +77,7 @@ fn values_of(
 ) -> Result<Option<SteadyValues>, CycleError>
     requires points { length region.now.points ≤ 32 }
     requires graph { IsGraphWithin limits.now.positions region.now graph.now }
-<<<<<<< HEAD
-    requires limit { limits.now.positions ≤ MOST_POSITIONS }
     requires memo { IsRememberedRight store.old limits.now.parts memo.old }
-=======
->>>>>>> fbd018080e37b390ea77f1951d302914fd9ac7af
     ensures values { IfOk result
         (λ x. MayBeSteady limits.now most region.now graph.now colour store.new x) }
     ensures refusal { IfErr result (λ e. IsRefusalOf limits.now most region.now e) }
@@ -89,11 +85,7 @@ fn values_of(
     ensures kept { Extends store.old store.new }
 {
     let lowest = region.points[0];
-<<<<<<< HEAD
-    match value_steady_with(alloc, graph, colour, store, memo, most, limits.parts) {
-=======
-    match value_steady(alloc, graph, colour, store, most, limits.parts()) {
->>>>>>> fbd018080e37b390ea77f1951d302914fd9ac7af
+    match value_steady_with(alloc, graph, colour, store, memo, most, limits.parts()) {
         Ok(values) => Ok(Some(values)),
         Err(BudgetError::Captures) => Ok(None),
         Err(BudgetError::Form(FormError::Parts)) => Err(CycleError::Form(lowest)),
@@ -158,7 +150,6 @@ fn values_of_both(
 ) -> Result<BothValues, CycleError>
     requires points { length region.now.points ≤ 32 }
     requires graph { IsGraphWithin limits.now.positions region.now graph.now }
-    requires limit { limits.now.positions ≤ MOST_POSITIONS }
     requires memo { IsRememberedRight store.old limits.now.parts memo.old }
     ensures solved { IfOk result (λ both. IsSolvedBy limits.now most region.now store.new
         (record { graph = graph.now; black = both.black; white = both.white })) }
@@ -166,6 +157,7 @@ fn values_of_both(
     ensures kept { Extends store.old store.new }
 {
     let lowest = region.points[0];
+    let _most = limits.positions();
     let black = values_of(
         alloc,
         region,
@@ -213,26 +205,10 @@ fn values_of_region(
     ensures refusal { IfErr result (λ e. IsRefusalOf limits.now most region.now e) }
     ensures kept { Extends store.old store.new }
 {
-<<<<<<< HEAD
     let mut memo = ValueMemo::new(alloc);
     let both = values_of_both(alloc, region, graph, limits, most, store, &mut memo);
     drop(memo);
     both
-=======
-    let lowest = region.points[0];
-    let _most = limits.positions();
-    let black = values_of(alloc, region, graph, Colour::Black, limits, most, store)?;
-    if !graph.has_cycle() {
-        return alone(black, lowest);
-    }
-    match values_of(alloc, region, graph, Colour::White, limits, most, store) {
-        Ok(white) => together(black, white, lowest),
-        Err(fault) => {
-            drop(black);
-            Err(fault)
-        }
-    }
->>>>>>> fbd018080e37b390ea77f1951d302914fd9ac7af
 }
 
 /// The graph and the values of a region.

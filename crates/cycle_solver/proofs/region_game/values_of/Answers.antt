@@ -1,7 +1,8 @@
-use Rattle.std.proofs.Common.{◌∙◌, ap, get_or, subst}
+use Rattle.std.proofs.Common.{◌∙◌, ap, get_or, subst, sym}
 use Rattle.std.proofs.lemmas.List.{get_or_default}
 use Rattle.game_canon.specs.declared.errors.FormError.TheVariants.{Bounds, Parts}
 use Rattle.local_value.specs.BudgetValues.{IsPastLimits}
+use Rattle.local_value.specs.Remembered.{IsRememberedRight}
 use Rattle.cycle_solver.proofs.GameLaws.{past_bounds, past_parts}
 use Rattle.cycle_solver.proofs.region_game.values_of.Goals as goal
 
@@ -49,7 +50,12 @@ pub returns-in-Ok-clause-refusal : goal.returns-in-Ok-clause-refusal
 returns-in-Ok-clause-refusal c = tt
 
 pub returns-in-Ok-clause-memo : goal.returns-in-Ok-clause-memo
-returns-in-Ok-clause-memo c = c.in-Ok.ensures.memo
+returns-in-Ok-clause-memo c =
+    subst (λ n. IsRememberedRight c.value_steady_with.new.store n c.value_steady_with.new.memo) c.parts.ensures.value c.in-Ok.ensures.memo
+
+pub value_steady_with-requires-clause-memo : goal.value_steady_with-requires-clause-memo
+value_steady_with-requires-clause-memo c =
+    subst (λ n. IsRememberedRight c.args.store.now n c.args.memo.now) (sym c.parts.ensures.value) c.requires.memo
 
 pub returns-in-Ok-clause-kept : goal.returns-in-Ok-clause-kept
 returns-in-Ok-clause-kept c = c.value_steady_with.ensures.kept

@@ -73,15 +73,10 @@ values_of-requires-2-clause-points c = c.requires.points
 
 pub values_of-requires-2-clause-graph : goal.values_of-requires-2-clause-graph
 values_of-requires-2-clause-graph c = c.requires.graph
-<<<<<<< HEAD
 
-pub values_of-requires-2-clause-limit : goal.values_of-requires-2-clause-limit
-values_of-requires-2-clause-limit c = c.requires.limit
 
 pub values_of-requires-clause-memo : goal.values_of-requires-clause-memo
 values_of-requires-clause-memo c = c.requires.memo
 
 pub values_of-requires-2-clause-memo : goal.values_of-requires-2-clause-memo
 values_of-requires-2-clause-memo c = c.in_ok-black.ensures.memo
-=======
->>>>>>> fbd018080e37b390ea77f1951d302914fd9ac7af
