@@ -165,16 +165,20 @@ fn list_position<L: Ledger>(
 {
     let number = threes(position);
     let mut moves = LocalMoves::of(links, Local(position), steps);
-    'linking: while let Some(step) = moves.next(links) {
-        let after = number_after(powers, number, &step);
-        if let Some(place) = place_of(table, step.next, after) {
+    'turns: loop {
+        'linking: while let Some(step) = moves.next(links) {
+            let after = number_after(powers, number, &step);
+            if let Some(place) = place_of(table, step.next, after) {
+                edges.push(edge_of(&step, place))?;
+                continue;
+            }
+            let place = new_place(alloc, table, step.next, limit)?;
             edges.push(edge_of(&step, place))?;
-            continue;
         }
-        let place = new_place(alloc, table, step.next, limit)?;
-        edges.push(edge_of(&step, place))?;
+        if !moves.pass_on() {
+            return Ok(());
+        }
     }
-    Ok(())
 }
 
 /// The edges that were found, the span of them that is each position's, and the places that wait for their edges.

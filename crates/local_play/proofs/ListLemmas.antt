@@ -13,7 +13,7 @@ use Rattle.go_grid.specs.Board.{other}
 use Rattle.local_play.specs.declared.places.Places.{Places}
 use Rattle.local_play.specs.declared.local_move.LocalMove.{LocalMove}
 use Rattle.local_play.specs.declared.local_moves.LocalMoves.{LocalMoves}
-use Rattle.local_play.specs.GivenMoves.{HaveGiven}
+use Rattle.local_play.specs.GivenMoves.{HaveGiven, HaveGivenTurn}
 use Rattle.local_play.specs.LocalPlay.{IsLocalMove}
 use Rattle.local_play.specs.Moves.{ListsLocalMoves, IsMoveFrom, StandsBefore}
 use Rattle.local_play.specs.Places.{Has}
@@ -118,39 +118,44 @@ given_legal touch cells given s have m h =
       | inr new ↦ (g.below.each m new).2
     ]
 
-module _ (touch : List Touch) (cells : List Cell) (given : List LocalMove) (s : LocalMoves) (have : HaveGiven touch cells given s)
-    (none : (q : ℕ) → ¬ Has s.rest q) where
-  g : IsGiving touch cells given s have.below have.below
-  g = have.giving
+-- where no place is left, all moves of the colour were given
+pub turn_given : (touch : List Touch) (cells : List Cell) (given : List LocalMove) (s : LocalMoves) → HaveGiven touch cells given s
+    → ((q : ℕ) → ¬ Has s.rest q) → HaveGivenTurn touch cells given s
+turn_given touch cells given s have none =
+    let g = have.giving in
+    record {
+      turn = g.turn;
+      earlier = g.earlier;
+      before = g.before;
+      more = g.more;
+      appended = g.appended;
+      whole = record {
+        each = λ m h. let w = g.below.each m h in (w.0, omega (arith, w.2.move.place, g.turn.long), w.2);
+        all = λ q after lt m. elim (cases_lt q have.below) [
+          | inl old ↦ g.below.all q after old m
+          | inr le ↦ absurd (none q ((g.left q).1 ((g.turn.empty q).1 (lt, m.free), le)))
+        ];
+        rising = g.below.rising;
+      };
+    }
 
-  -- where no place is left, all moves of the colour were given
-  whole : ListsBelow touch cells s.turn.colour (length touch) g.more
-  whole = record {
-    each = λ m h. let w = g.below.each m h in (w.0, omega (arith, w.2.move.place, g.turn.long), w.2);
-    all = λ q after lt m. elim (cases_lt q have.below) [
-      | inl old ↦ g.below.all q after old m
-      | inr le ↦ absurd (none q ((g.left q).1 ((g.turn.empty q).1 (lt, m.free), le)))
-    ];
-    rising = g.below.rising;
-  }
-
+module _ (touch : List Touch) (cells : List Cell) (given : List LocalMove) (s : LocalMoves) (g : HaveGivenTurn touch cells given s) where
   -- White's turn after Black's
-  pub white_starts : (after : LocalMoves) → s.turn.colour ≢ colour.White → after.turn.colour ≡ other s.turn.colour → IsTurn touch cells after.turn
+  pub white_starts : (after : LocalMoves) → s.turn.colour ≡ colour.Black → after.turn.colour ≡ other s.turn.colour → IsTurn touch cells after.turn
       → after.rest ≡ after.turn.empty → HaveGiven touch cells given after
-  white_starts after black turned turn all =
-      let first : s.turn.colour ≡ colour.Black = elim (colours s.turn.colour) [ inl e ↦ e | inr e ↦ absurd (black e) ] in
+  white_starts after first turned turn all =
       let white : after.turn.colour ≡ colour.White = turned ∙ ap other first in
       let nothing : g.earlier ≡ [] = subst (λ c. AreEarlier touch cells c g.earlier) first g.before in
       let same : given ≡ g.more = g.appended ∙ ap (λ l. l ++ g.more) nothing in
       turn_starts touch cells given after turn
       (subst (λ c. AreEarlier touch cells c given) (sym white)
-      (subst (ListsBelow touch cells colour.Black (length touch)) (sym same) (subst (λ c. ListsBelow touch cells c (length touch) g.more) first whole)))
+      (subst (ListsBelow touch cells colour.Black (length touch)) (sym same) (subst (λ c. ListsBelow touch cells c (length touch) g.more) first g.whole)))
       all
 
   -- after White's turn all moves were given
   pub all_given : s.turn.colour ≡ colour.White → ListsLocalMoves touch cells given
   all_given last =
-      let white = subst (λ c. ListsBelow touch cells c (length touch) g.more) last whole in
+      let white = subst (λ c. ListsBelow touch cells c (length touch) g.more) last g.whole in
       let black = subst (λ c. AreEarlier touch cells c g.earlier) last g.before in
       subst (ListsLocalMoves touch cells) (sym g.appended) (all_moves touch cells g.earlier g.more g.turn.long black white)
 

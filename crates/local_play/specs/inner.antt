@@ -5,3 +5,4 @@ pub mod Links
 pub mod LocalPlay
 pub mod Packed
 pub mod Places
+pub mod Taking

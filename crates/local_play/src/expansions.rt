@@ -32,10 +32,14 @@ pub fn list_moves<L: Ledger>(
 {
     moves.clear();
     let mut left = LocalMoves::of(links, from, steps);
-    'listing: while let Some(found) = left.next(links) {
-        moves.push(found)?;
+    'turns: loop {
+        'listing: while let Some(found) = left.next(links) {
+            moves.push(found)?;
+        }
+        if !left.pass_on() {
+            return Ok(());
+        }
     }
-    Ok(())
 }
 
 /// All legal local moves of a position of the region, which has at most 32 points: Black's by place and then White's. It

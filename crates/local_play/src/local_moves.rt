@@ -1,14 +1,12 @@
 //! The local moves of a position, one after another.
 
-ghost use Rattle.std.specs.Prelude.{◌≡◌, ℕ, ◌+◌, ◌<◌, ◌≤◌, ◌↔◌, List, [], length, true, IfSome};
+ghost use Rattle.std.specs.Prelude.{◌≡◌, ℕ, ◌+◌, ◌<◌, ◌≤◌, List, [], length, true, IfSome, MatchOption};
 ghost use Rattle.go_grid.specs.declared.grid.Cell.{Cell};
-ghost use Rattle.go_grid.specs.declared.grid.Colour.TheVariants.{White};
 ghost use Rattle.go_grid.specs.declared.region.Touch.{Touch};
 ghost use Rattle.local_play.specs.Packed.{pack};
-ghost use Rattle.local_play.specs.Places.{Has};
 ghost use Rattle.local_play.specs.Links.{IsTable};
-ghost use Rattle.local_play.specs.GivenMoves.{HaveGiven, IsGiven, tries_left};
-ghost use Rattle.local_play.specs.inner.Giving.{IsTaken};
+ghost use Rattle.local_play.specs.GivenMoves.{HaveGiven, HaveGivenTurn, IsGiven, IsPassed, tries_left};
+ghost use Rattle.local_play.specs.inner.Taking.{IsTaken};
 
 use crate::links::Links;
 use crate::local::Local;
@@ -44,31 +42,6 @@ impl LocalMoves {
         }
     }
 
-    /// Whether it is White's turn.
-    fn is_last(&self) -> bool
-        ensures { (result ≡ true) ↔ (self.now.turn.colour ≡ White) }
-    {
-        matches!(self.turn.colour, Colour::White)
-    }
-
-    /// It is White's turn where no place is left at Black's.
-    #[inline(always)]
-    fn pass_on(&mut self)
-        ensures given { (touch : List Touch) (cells : List Cell) (given : List LocalMove)
-            → HaveGiven touch cells given self.old → HaveGiven touch cells given self.new }
-        ensures fewer { tries_left self.new ≤ tries_left self.old }
-        ensures last { ((q : ℕ) → ¬ Has self.new.rest q) → self.new.turn.colour ≡ White }
-    {
-        if !self.rest.is_empty() {
-            return;
-        }
-        if self.is_last() {
-            return;
-        }
-        self.turn = self.turn.other();
-        self.rest = self.turn.empty;
-    }
-
     /// The next empty place at which a stone is tried.
     #[inline(always)]
     fn take_place(&mut self) -> Option<usize>
@@ -76,9 +49,9 @@ impl LocalMoves {
             → HaveGiven touch cells given self.old
             → IsTaken touch cells given self.new result }
         ensures small { IfSome result (λ place. place < MOST_PLACES) }
-        ensures fewer { IfSome result (λ _. tries_left self.new < tries_left self.old) }
+        ensures fewer { MatchOption result (tries_left self.new ≤ tries_left self.old)
+            (λ _. tries_left self.new < tries_left self.old) }
     {
-        self.pass_on();
         let Some(place) = self.rest.first() else {
             return None;
         };
@@ -86,13 +59,14 @@ impl LocalMoves {
         Some(place)
     }
 
-    /// The next move, until there is none.
+    /// The next move of the colour whose turn it is, until there is none.
     #[inline(always)]
     pub fn next(&mut self, links: &Links) -> Option<LocalMove>
         ensures given { (touch : List Touch) (cells : List Cell) (given : List LocalMove)
             → IsTable touch links.now → HaveGiven touch cells given self.old
             → IsGiven touch cells given self.new result }
-        ensures fewer { IfSome result (λ _. tries_left self.new < tries_left self.old) }
+        ensures fewer { MatchOption result (tries_left self.new ≤ tries_left self.old)
+            (λ _. tries_left self.new < tries_left self.old) }
     {
         'trying: while let Some(place) = self.take_place() {
             if let Some(found) = self.turn.try_stone(links, place) {
@@ -100,5 +74,23 @@ impl LocalMoves {
             }
         }
         None
+    }
+
+    /// It is White's turn after Black's. Answers whether it was Black's.
+    #[inline(always)]
+    pub fn pass_on(&mut self) -> bool
+        ensures given { (touch : List Touch) (cells : List Cell) (given : List LocalMove)
+            → HaveGivenTurn touch cells given self.old
+            → IsPassed touch cells given self.new result }
+        ensures fewer { result ≡ true → tries_left self.new < tries_left self.old }
+    {
+        match self.turn.colour {
+            Colour::Black => {
+                self.turn = self.turn.other();
+                self.rest = self.turn.empty;
+                true
+            }
+            Colour::White => false,
+        }
     }
 }

@@ -1,5 +1,5 @@
 -- Moves that are given one after another: what was given of each colour, and what is left to try.
-use Rattle.std.specs.Prelude.{◌≡◌, ℕ, ◌+◌, ◌<◌, ◌≤◌, ◌↔◌, List, [], ◌++◌, Option, None, Some, length, Contains}
+use Rattle.std.specs.Prelude.{◌≡◌, ℕ, ◌<◌, ◌≤◌, ◌↔◌, List, [], ◌++◌, length, Contains}
 use Rattle.std.specs.List.{AllPairs}
 use Rattle.go_grid.specs.declared.grid.Cell.{Cell}
 use Rattle.go_grid.specs.declared.grid.Colour.{Colour}
@@ -8,7 +8,7 @@ use Rattle.go_grid.specs.declared.region.Touch.{Touch}
 use Rattle.local_play.specs.declared.local_move.LocalMove.{LocalMove}
 use Rattle.local_play.specs.declared.local_moves.LocalMoves.{LocalMoves}
 use Rattle.local_play.specs.LocalPlay.{IsLocalMove}
-use Rattle.local_play.specs.Moves.{IsMoveFrom, ListsLocalMoves}
+use Rattle.local_play.specs.Moves.{IsMoveFrom}
 use Rattle.local_play.specs.Places.{Has}
 use Rattle.local_play.specs.inner.Lasting.{IsTurn}
 
@@ -36,9 +36,3 @@ pub record IsGiving (touch : List Touch) (cells : List Cell) (given : List Local
   pub appended : given ≡ earlier ++ more
   pub below : ListsBelow touch cells s.turn.colour n more
   pub left : (q : ℕ) → Has s.rest q ↔ (Has s.turn.empty q × (m ≤ q))
-
--- the place is the next to try, or there is none
-abbrev pub IsTaken : List Touch → List Cell → List LocalMove → LocalMoves → Option ℕ → Type 0
-IsTaken touch cells given s None = ListsLocalMoves touch cells given
-IsTaken touch cells given s (Some p) =
-    Has s.turn.empty p × IsGiving touch cells given s p (p + 1)

@@ -1,6 +1,7 @@
-use Rattle.std.proofs.Common.{◌<◌, ◌^◌, ◌++◌, [], ◌∷◌, ◌∙◌, refl, sym, subst, inl, length, drop, append-nil}
+use Rattle.std.proofs.Common.{arith, ◌<◌, ◌^◌, ◌++◌, [], ◌∷◌, ◌∙◌, refl, sym, subst, inl, length, drop, append-nil}
 use Rattle.std.proofs.lemmas.Result.{err_from_is_err_and}
 use Rattle.std.proofs.lemmas.List.Elements.{Contains-push}
+use Rattle.local_play.specs.GivenMoves.{tries_left}
 use Rattle.local_play.proofs.ListLemmas.{given_legal}
 use Rattle.local_graph.specs.inner.PlaceTable.{AddsDigit}
 use Rattle.local_graph.proofs.ExploreLemmas.{edges_from, edges_err, move_numbered}
@@ -8,8 +9,8 @@ use Rattle.local_graph.proofs.FoundLemmas.{linking_start, linking_edge, one_behi
 use Rattle.local_graph.proofs.NumberLemmas.{move_follows, small_number}
 use Rattle.local_graph.proofs.graph_build.list_position.Goals as goal
 
-pub linking-init : goal.linking-init
-linking-init g c = record {
+pub turns-init : goal.turns-init
+turns-init g c = record {
   given = [];
   have = c.of-moves.ensures.none;
   behind = [];
@@ -54,6 +55,7 @@ linking-preserved-in-Some-place_of g c =
           (inl refl) so_far.linking.few found.0 found.1 c.edge_of.ensures;
       table = so_far.table;
       numbers = so_far.numbers;
+      fewer = omega (arith, c.in-Some.ensures.fewer, so_far.fewer);
     }
 
 pub new_place-requires-clause-numbered : goal.new_place-requires-clause-numbered
@@ -87,10 +89,32 @@ linking-preserved g c =
           placed.0 placed.3 placed.1 placed.2 c.edge_of-in-Some.ensures;
       table = c.in_ok-place.ensures.table;
       numbers = c.in_ok-place.ensures.numbers ∙ so_far.numbers;
+      fewer = omega (arith, c.in-Some.ensures.fewer, so_far.fewer);
     }
 
-pub returns-clause-edges : goal.returns-clause-edges
-returns-clause-edges g c touch cells table long packed =
+pub returns-then-not-pass_on-clause-edges : goal.returns-then-not-pass_on-clause-edges
+returns-then-not-pass_on-clause-edges g c touch cells table long packed =
     let so_far = c.linking.invariant in
-    edges_from touch cells _ _ _ so_far.given _ _ so_far.behind tt
-    (c.in_default.ensures.given touch cells so_far.given table (so_far.have touch cells table long packed)) so_far.appended so_far.linking
+    let turn = c.in_default.ensures.given touch cells so_far.given table (so_far.have touch cells table long packed) in
+    edges_from touch cells _ _ _ so_far.given _ _ so_far.behind tt (c.if-not-pass_on.ensures.given touch cells so_far.given turn)
+    so_far.appended so_far.linking
+
+pub turns-preserved : goal.turns-preserved
+turns-preserved g c =
+    let so_far = c.linking.invariant in
+    record {
+      given = so_far.given;
+      have = λ touch cells table long packed.
+          let turn = c.in_default.ensures.given touch cells so_far.given table (so_far.have touch cells table long packed) in
+          c.if-not-pass_on.ensures.given touch cells so_far.given turn;
+      behind = so_far.behind;
+      appended = so_far.appended;
+      linking = so_far.linking;
+      table = so_far.table;
+      numbers = so_far.numbers;
+    }
+
+pub turns-smaller : goal.turns-smaller
+turns-smaller g c =
+    let falls : tries_left c.pass_on.new.self < tries_left c.next.new.self = c.if-not-pass_on.ensures.fewer refl in
+    omega (arith, falls, c.in_default.ensures.fewer, c.linking.invariant.fewer)

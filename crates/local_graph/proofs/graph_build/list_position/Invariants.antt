@@ -1,4 +1,4 @@
-use Rattle.std.proofs.Common.{◌≡◌, ◌++◌, List, length}
+use Rattle.std.proofs.Common.{◌≤◌, ◌≡◌, ◌++◌, List, length}
 use Rattle.go_grid.specs.declared.grid.Cell.{Cell}
 use Rattle.go_grid.specs.declared.region.Touch.{Touch}
 use Rattle.local_play.specs.declared.local_move.LocalMove.{LocalMove}
@@ -10,6 +10,21 @@ use Rattle.local_graph.specs.inner.PlaceTable.{IsPlaceTable}
 use Rattle.local_graph.proofs.FoundLemmas.{Linking}
 use Rattle.local_graph.proofs.graph_build.list_position.Given as goal
 
+abbrev pub invariant-turns : goal.invariant-turns
+invariant-turns g l = record {
+  given : List LocalMove;
+  have : (touch : List Touch) (cells : List Cell) → IsTable touch l.links → length cells ≡ length touch → l.fn.position ≡ pack cells
+      → HaveGiven touch cells given l.moves;
+  behind : List Edge;
+  appended : l.edges.items ≡ l.fn.edges.items ++ behind;
+  linking : Linking l.fn.table.positions.items given l.fn.limit l.table.positions.items behind;
+  table : IsPlaceTable l.table;
+  numbers : l.table.numbers ≡ l.fn.table.numbers;
+}
+
+abbrev pub decreases-turns : goal.decreases-turns
+decreases-turns g l = tries_left l.moves
+
 abbrev pub invariant-linking : goal.invariant-linking
 invariant-linking g l = record {
   given : List LocalMove;
@@ -20,6 +35,7 @@ invariant-linking g l = record {
   linking : Linking l.fn.table.positions.items given l.fn.limit l.table.positions.items behind;
   table : IsPlaceTable l.table;
   numbers : l.table.numbers ≡ l.fn.table.numbers;
+  fewer : tries_left l.moves ≤ tries_left l.initial.moves;
 }
 
 abbrev pub decreases-linking : goal.decreases-linking
