@@ -28,7 +28,7 @@ use Rattle.endgame_run.specs.declared.status.Status.TheVariants as status
 abbrev pub most_captures : ℕ
 most_captures = 32
 
--- the game is opened by the position, and its regions of play are steady within the limits
+-- the game is opened by the position on these terms, and its regions of play are steady within the limits
 abbrev pub IsSteadyGame : GameTerms → Setup → Solved → Type 0
 IsSteadyGame terms setup game = Begun setup terms.tax terms.limits most_captures (Ok game)
 
@@ -39,7 +39,7 @@ IsGameText Values k game text = IsCycleValuesText game.state.board.columns game.
 IsGameText Margin k game text = IsCycleMarginText game.state k text
 IsGameText Moves k game text = IsCycleMovesText (name_on Letters game.state.board) game.state k text
 
--- the text that answers a question about a position, within the limits
+-- the text that answers a question about a position, on these terms
 pub record IsCycleText (question : CycleQuestion) (terms : GameTerms) (setup : Setup) (text : List ℕ) : Type 0 where
   pub game : Solved
   pub steady : IsSteadyGame terms setup game

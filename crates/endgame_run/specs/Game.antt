@@ -37,7 +37,7 @@ abbrev pub question_of_game : Bool → Question
 question_of_game false = Solve
 question_of_game true = WithCycles cycle.Solve
 
--- the position of the file of the word by the settings opens the game within the limits, with cycles admitted or without, and this is
+-- the position of the file of the word by the settings opens the game on these terms, with cycles admitted or without, and this is
 -- the engine's colour
 pub record IsGame (terms : GameTerms) (cycles : Bool) (given : Option Colour) (settings : Settings) (word : List ℕ) (i : Input) (engine : Colour)
     (s : EngineGame) : Type 0 where

@@ -29,7 +29,7 @@ use Rattle.endgame_run.specs.Written.{Reports}
 use Rattle.endgame_run.specs.declared.status.Status.{Status}
 use Rattle.endgame_run.specs.declared.status.Status.TheVariants.{BadFile, CannotRead, CaptureLimit, Cycle, Done, FormLimit, RegionLimit, TooLong}
 
--- the text that answers a question about a position, within the limits
+-- the text that answers a question about a position, on these terms
 abbrev pub IsTextOf : Question → GameTerms → Setup → List ℕ → Type 0
 IsTextOf Solve terms setup text = IsSolved terms setup text
 IsTextOf Values terms setup text = IsValued terms setup text

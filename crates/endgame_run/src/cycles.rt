@@ -102,7 +102,7 @@ fn report_game(
     })
 }
 
-/// The report on a question about a position whose regions are steady for it within the limits.
+/// The report on a question about a position whose regions are steady for it, on these terms.
 pub(crate) fn solve_with_cycles<L: Ledger>(
     alloc: Global,
     question: CycleQuestion,

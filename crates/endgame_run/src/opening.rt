@@ -30,7 +30,7 @@ fn session_of(player: Player, engine: Option<Colour>, setup: &Setup) -> Session
     Session::new(player, engine.unwrap_or(setup.side()))
 }
 
-/// The session of a position that is solved within the limits.
+/// The session of a position that is solved on these terms.
 fn begin_plain<L: Ledger>(
     alloc: Global,
     setup: &Setup,
@@ -82,7 +82,7 @@ fn begin_with_cycles<L: Ledger>(
     }
 }
 
-/// The session of a position within the limits of a game, with cycles admitted or without.
+/// The session of a position on the terms of a game, with cycles admitted or without.
 pub(crate) fn begin<L: Ledger>(
     alloc: Global,
     setup: &Setup,

@@ -40,7 +40,7 @@ fn beside_board(setup: &Setup) -> Terms
     }
 }
 
-/// The report on a question about a position, within the limits.
+/// The report on a question about a position, on these terms.
 fn report_on_position<L: Ledger>(
     alloc: Global,
     question: Question,

@@ -123,7 +123,7 @@ fn report_game(
     })
 }
 
-/// The report on a question about a position that is solved for it within the limits.
+/// The report on a question about a position that is solved for it on these terms.
 pub(crate) fn solve<L: Ledger>(
     alloc: Global,
     question: Question,

@@ -78,8 +78,8 @@ returns-in_err-push-2-clause-kept g c = c.region_game.ensures.kept
 pub returns-in_err-push-2-clause-steps : goal.returns-in_err-push-2-clause-steps
 returns-in_err-push-2-clause-steps g c = c.region_game.ensures.steps
 
-pub region_game-requires-clause-points : goal.region_game-requires-clause-points
-region_game-requires-clause-points g c = c.requires.points
+pub region_game-requires : goal.region_game-requires
+region_game-requires g c = record { points = c.requires.points }
 
 pub returns-in-Some-clause-kinds : goal.returns-in-Some-clause-kinds
 returns-in-Some-clause-kinds g c = c.requires.kinds

@@ -20,11 +20,11 @@ returns-in_ok-opened-in-Position-clause-steps g c =
     let p = found_position c.args.settings.now c.args.game.now.word.now i j c.in_ok-setup.field-0 c.in-Position.setup c.in-Position.is c.in_ok-setup.ensures.found in
     inr (p.file, c.in-Position.setup, p.told_so, p.reads, needed_steps (question_of_game c.args.game.now.cycles) c.args.game.now.terms.limits c.in-Position.setup c.args.steps.now c.begin.new.steps (game_needs c.args.game.now.cycles) c.begin.ensures.steps)
 
-pub begin-requires-clause-taxed : goal.begin-requires-clause-taxed
-begin-requires-clause-taxed g c =
+pub begin-requires : goal.begin-requires
+begin-requires g c =
     let i = input_of g.H.Shelf g.S.Source c.args.shelf.now c.args.lines.now in
     let j = input_of g.H.Shelf g.S.Source c.find_position.new.shelf c.find_position.new.lines in
-    position_may_tax c.args.settings.now c.args.game.now.word.now i j c.in_ok-setup.field-0 c.in-Position.setup c.args.game.now.terms.tax c.in-Position.is c.in_ok-setup.ensures.found c.requires.untaxed
+    record { taxed = position_may_tax c.args.settings.now c.args.game.now.word.now i j c.in_ok-setup.field-0 c.in-Position.setup c.args.game.now.terms.tax c.in-Position.is c.in_ok-setup.ensures.found c.requires.untaxed }
 
 pub returns-in_err-setup-clause-reads : goal.returns-in_err-setup-clause-reads
 returns-in_err-setup-clause-reads g c = c.find_position.ensures.reads

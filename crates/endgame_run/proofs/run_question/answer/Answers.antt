@@ -10,11 +10,11 @@ returns-in_ok-report-in-Position-clause-answer g c =
     position_answer c.args.inquiry.now.question c.args.inquiry.now.terms _ _ _ c.args.settings.now c.in-Position.setup c.in_ok-report-in-Position.report.status c.in_ok-report-in-Position.report.text
     (found_position c.args.settings.now c.args.inquiry.now.word.now i j c.in_ok-setup.field-0 c.in-Position.setup c.in-Position.is c.in_ok-setup.ensures.found) c.in_ok-report-in-Position.ensures.answer
 
-pub report_on_position-requires-clause-taxed : goal.report_on_position-requires-clause-taxed
-report_on_position-requires-clause-taxed g c =
+pub report_on_position-requires : goal.report_on_position-requires
+report_on_position-requires g c =
     let i = input_of g.H.Shelf g.S.Source c.args.shelf.now c.args.lines.now in
     let j = input_of g.H.Shelf g.S.Source c.find_position.new.shelf c.find_position.new.lines in
-    position_may_tax c.args.settings.now c.args.inquiry.now.word.now i j c.in_ok-setup.field-0 c.in-Position.setup c.args.inquiry.now.terms.tax c.in-Position.is c.in_ok-setup.ensures.found c.requires.untaxed
+    record { taxed = position_may_tax c.args.settings.now c.args.inquiry.now.word.now i j c.in_ok-setup.field-0 c.in-Position.setup c.args.inquiry.now.terms.tax c.in-Position.is c.in_ok-setup.ensures.found c.requires.untaxed }
 
 pub returns-in_err-setup-clause-reads : goal.returns-in_err-setup-clause-reads
 returns-in_err-setup-clause-reads g c = c.find_position.ensures.reads

@@ -7,5 +7,5 @@ pub returns-in_ok-unless_memory-in-Err-clause-opened : goal.returns-in_ok-unless
 returns-in_ok-unless_memory-in-Err-clause-opened g c = cannot_open c.args.limits.now false c.args.setup.now c.in-Err.fault c.in-Err.ensures.begun c.in_ok-unless_memory-in-Err.ensures
 
 -- an engine has no tax
-pub begin-requires-clause-taxed : goal.begin-requires-clause-taxed
-begin-requires-clause-taxed g c taxed = absurd (both_ways _ refl taxed)
+pub begin-requires : goal.begin-requires
+begin-requires g c = record { taxed = λ taxed. absurd (both_ways false refl taxed) }

@@ -8,5 +8,5 @@ returns-in_ok-unless_wanted-in-Err-clause-opened g c =
     cannot_open_with_cycles c.args.limits.now false c.args.setup.now c.in-Err.fault c.in-Err.ensures.begun c.in_ok-unless_wanted-in-Err.ensures
 
 -- an engine has no tax
-pub begin-requires-clause-taxed : goal.begin-requires-clause-taxed
-begin-requires-clause-taxed g c taxed = absurd (both_ways _ refl taxed)
+pub begin-requires : goal.begin-requires
+begin-requires g c = record { taxed = λ taxed. absurd (both_ways false refl taxed) }
