@@ -1,5 +1,5 @@
 -- What keeps the board of a number from being solved.
-use Rattle.std.proofs.Common.{◌≤◌, ℕ, inl, inr, arith, List, Err}
+use Rattle.std.proofs.Common.{◌≤◌, ℕ, inl, inr, arith, List, Err, false}
 use Rattle.std.proofs.lemmas.List.Elements.{Contains-get_or}
 use Rattle.go_grid.specs.declared.grid.Cell.{Cell}
 use Rattle.go_grid.specs.declared.region.Touch.{Touch}

@@ -1,4 +1,4 @@
-use Rattle.std.proofs.Common.{inl, inr, subst, sym, ap, ◌∙◌, length}
+use Rattle.std.proofs.Common.{inl, inr, subst, sym, ap, ◌∙◌, length, false}
 use Rattle.fault_words.specs.FaultWords.{AreFaultWords}
 use Rattle.fault_words.specs.NamedPoints.{NamesPoints}
 use Rattle.fault_words.proofs.NamedPointLemmas.{names_points}

@@ -1,4 +1,4 @@
-use Rattle.std.proofs.Common.{◌≡◌, subst, sym, IfOk, ap, ◌∙◌, length}
+use Rattle.std.proofs.Common.{◌≡◌, subst, sym, IfOk, ap, ◌∙◌, length, false}
 use Rattle.std.specs.Prelude.{string_bytes}
 use Rattle.fault_words.specs.FaultWords.{AreFaultWords}
 use Rattle.fault_words.specs.NamedPoints.{NamesPoints}
