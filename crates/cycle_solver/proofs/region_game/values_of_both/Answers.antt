@@ -74,7 +74,6 @@ values_of-requires-2-clause-points c = c.requires.points
 pub values_of-requires-2-clause-graph : goal.values_of-requires-2-clause-graph
 values_of-requires-2-clause-graph c = c.requires.graph
 
-
 pub values_of-requires-clause-memo : goal.values_of-requires-clause-memo
 values_of-requires-clause-memo c = c.requires.memo
 
