@@ -16,7 +16,7 @@ use crate::views::{View, colour_after};
 use endgame_solver::is_stone_at;
 use game_store::GameId;
 use go_grid::{Colour, Point, Region};
-use local_graph::{CompactEdge, Edge};
+use local_graph::{Edge, Edges};
 use std::marker::Model;
 
 /// A game for each region, by its number. Contracts see the list of them.
@@ -41,7 +41,7 @@ impl Model for RegionGames {
 fn edge_in(
     region: &Region,
     view: &View,
-    edges: &[CompactEdge],
+    edges: &Edges<'_>,
     point: Point,
     colour: Colour,
 ) -> Option<Edge>
@@ -50,8 +50,8 @@ fn edge_in(
         (λ e. (f : Edge) × Contains edges.now f × (e ≡ own view.now f)
         × IsStoneAt region.now colour point e) }
 {
-    'edges: for edge in edges {
-        let own = view.own(edge.edge());
+    'edges: for number in 0..edges.len() {
+        let own = view.own(edges.get(number));
         if is_stone_at(region, own, point, colour) {
             return Some(own);
         }
@@ -128,7 +128,7 @@ impl RegionGames {
     {
         let view = &self.book.views[number];
         let edges = self.book.games[view.game].graph.graph().edges(place);
-        edge_in(region, view, edges, point, colour)
+        edge_in(region, view, &edges, point, colour)
     }
 
     /// Whether a move of a region's position at a place is a capture that returns.

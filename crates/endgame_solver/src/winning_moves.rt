@@ -21,7 +21,7 @@ use crate::views::View;
 use dyadic_num::Dyadic;
 use game_store::{GameId, Store};
 use go_grid::{Colour, Point, Region};
-use local_graph::{CompactEdge, Edge};
+use local_graph::{Edge, Edges};
 use local_value::Values;
 use sum_outcome::Search;
 use whole_rules::{Move, Whole};
@@ -61,7 +61,7 @@ pub fn is_stone_at(region: &Region, edge: Edge, point: Point, colour: Colour) ->
 fn edge_in(
     region: &Region,
     view: View,
-    edges: &[CompactEdge],
+    edges: &Edges<'_>,
     point: Point,
     colour: Colour,
 ) -> Option<Edge>
@@ -71,8 +71,8 @@ fn edge_in(
         (λ e. (f : Edge) × Contains edges.now f × (e ≡ own view f)
         × IsStoneAt region.now colour point e) }
 {
-    'edges: for edge in edges {
-        let own = view.own(edge.edge());
+    'edges: for number in 0..edges.len() {
+        let own = view.own(edges.get(number));
         if is_stone_at(region, own, point, colour) {
             return Some(own);
         }
@@ -81,11 +81,11 @@ fn edge_in(
 }
 
 /// The edges of the graph that a region sees, of the position at a place.
-fn edges_seen(book: &Book, region: usize, place: usize) -> &[CompactEdge]
+fn edges_seen(book: &Book, region: usize, place: usize) -> Edges<'_>
     requires view { region < length book.now.views.items }
     requires graph { (view_at book.now.views.items region).graph < length book.now.graphs.items }
     requires place { place < length (seen_graph book.now region).positions }
-    ensures { result.now ≡ edges_at (seen_graph book.now region).edges place }
+    ensures { result ≡ edges_at (seen_graph book.now region).edges place }
 {
     let view = view_of(book, region);
     book.graphs[view.graph].edges(place)
@@ -119,7 +119,7 @@ pub(crate) fn stone_edge(
         let region = &regions[k];
         let view = view_of(book, k);
         let edges = edges_seen(book, k, places[k]);
-        if let Some(edge) = edge_in(region, view, edges, point, colour) {
+        if let Some(edge) = edge_in(region, view, &edges, point, colour) {
             return Some((k, edge));
         }
     }

@@ -9,13 +9,10 @@ use indexmap::IndexMap;
 use std::alloc::{AllocError, Global};
 
 /// Answers for pairs of ids below this may stand in a table.
-pub(crate) const NEAR: GameId = 1_024;
+pub(crate) const NEAR: GameId = 512;
 
-/// From so many comparisons in the map on there is a table.
-const MANY: usize = 1 << 16;
-
-/// How many comparisons the map holds at most. Then it forgets all.
-const MOST: usize = 1 << 18;
+/// How many comparisons the map holds at most. Then it forgets all, and from then on there is a table.
+const MOST: usize = 1 << 15;
 
 /// For pairs of ids, whether the first game is at most the second: of pairs of ids below `NEAR` in a table, if there is one,
 /// and else in a map.
@@ -87,7 +84,7 @@ pub(crate) fn remember(
 fn make_table(alloc: Global, memo: &mut Comparisons)
     ensures { Forgets (recalled memo.old) (recalled memo.new) }
 {
-    if memo.far.len() < MANY || !memo.near.is_empty() {
+    if memo.far.len() < MOST || !memo.near.is_empty() {
         return;
     }
     if let Ok(table) = vec![in alloc; None; (NEAR * NEAR) as usize] {

@@ -1,16 +1,12 @@
 -- Lists of edges, one behind another in one list.
-use Rattle.std.proofs.Common.{◌≡◌, ℕ, ◌+◌, ◌-◌, ◌<◌, ◌≤◌, inl, inr, arith, refl, ap, ◌∙◌, List, [], ◌∷◌, ◌++◌, length, get_or, take, drop, set, subst, sym, length-drop, length-append}
+use Rattle.std.proofs.Common.{◌≡◌, ℕ, ◌+◌, ◌-◌, ◌<◌, ◌≤◌, inl, inr, arith, refl, ap, ◌∙◌, List, [], ◌∷◌, ◌++◌, length, take, drop, set, subst, sym, length-drop, length-append}
 use Rattle.std.proofs.lemmas.Bool.{cases_lt}
 use Rattle.std.proofs.Math.Seq.{drop-append_seam}
-use Rattle.std.proofs.lemmas.List.{map-set, take_all, take-append-le, drop-append-le, get_or_default, get_or_past}
+use Rattle.std.proofs.lemmas.List.{map-set, take_all, take-append-le, drop-append-le, get_or_past}
 use Rattle.std.proofs.lemmas.List.Elements.{All-head, All-tail, All-set, All-weaker}
 use Rattle.local_graph.specs.declared.graph.Edge.{Edge}
 use Rattle.local_graph.specs.declared.edge_lists.Span.{Span}
-use Rattle.local_graph.specs.inner.Graph.{part, lists_of, AreWithin, edges_at, no_edge}
-
--- an edge that was read at a place of a list is the one there
-pub edge_read : {x y : Edge} (es : List Edge) {i : ℕ} → i < length es → y ≡ get_or es i y → x ≡ y → x ≡ get_or es i no_edge
-edge_read es {i} lt is e = e ∙ is ∙ get_or_default es i _ no_edge lt
+use Rattle.local_graph.specs.inner.Graph.{part, lists_of, AreWithin, edges_at}
 
 -- a part stays the same with more edges behind
 part_more : (edges more : List Edge) (s : Span) → s.start ≤ s.end → s.end ≤ length edges → part (edges ++ more) s ≡ part edges s

@@ -8,6 +8,7 @@ pub mod ExploreLemmas
 pub mod OrderLemmas
 pub mod CycleLemmas
 pub mod EdgeListLemmas
+pub mod EdgePartLemmas
 pub mod PathLemmas
 pub mod SearchLemmas
 pub mod BuildLemmas

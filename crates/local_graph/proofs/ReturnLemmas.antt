@@ -10,7 +10,7 @@ use Rattle.local_graph.specs.inner.Graph.{edges_at, edge_at}
 use Rattle.local_graph.specs.inner.Searching.{nodes_of, Trail}
 use Rattle.local_graph.proofs.PathLemmas.{trail_push, next_inside}
 
-abbrev no_frame : Frame
+abbrev pub no_frame : Frame
 no_frame = record { node = 0; left = 0 }
 
 -- one frame more along a path

@@ -4,6 +4,7 @@ pub mod Exploring
 pub mod PlaceTable
 pub mod Searching
 pub mod Graph
+pub mod ShortEdge
 pub mod Built
 pub mod SearchedFor
 pub mod Telling

@@ -120,7 +120,7 @@ impl Breadth {
     ) -> Result<Option<usize>, AllocError> {
         let moves = edges.any_at(step.node);
         'following: for number in 0..moves.len() {
-            let next = moves[number].next();
+            let next = moves.get(number).next;
             if is_marked(targets, next) {
                 return Ok(Some(number));
             }

@@ -1,9 +1,9 @@
-//! Graphs with edges of half their length.
+//! Graphs with edges of a quarter of their length.
 
 ghost use Rattle.std.specs.Prelude.{◌≡◌, ◌<◌, length, slice_index, slice_index_or, []};
 
-use crate::compact_edge::CompactEdge;
 use crate::edge_lists::EdgeLists;
+use crate::edges::Edges;
 use local_play::Local;
 use std::marker::Model;
 
@@ -62,9 +62,9 @@ impl CompactGraph {
     }
 
     /// The moves of the position at a place, Black's by place and then White's.
-    pub fn edges(&self, place: usize) -> &[CompactEdge]
+    pub fn edges(&self, place: usize) -> Edges<'_>
         requires { place < length self.now.positions }
-        ensures { result.now ≡ slice_index_or self.now.edges place [] }
+        ensures { result ≡ slice_index_or self.now.edges place [] }
     {
         self.edges.at(place)
     }

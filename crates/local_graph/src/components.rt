@@ -22,9 +22,12 @@ fn set_number(numbers: &mut [usize], node: usize, number: usize) {
 /// The frame with one move fewer to follow, and the position to which that move leads. None where all were followed.
 fn next_of(edges: &EdgeLists, frame: Frame) -> Option<(Frame, usize)> {
     let left = frame.left.checked_sub(1)?;
-    let edge = edges.any_at(frame.node).get(left)?;
     let node = frame.node;
-    Some((Frame { node, left }, edge.next()))
+    let moves = edges.any_at(node);
+    if left >= moves.len() {
+        return None;
+    }
+    Some((Frame { node, left }, moves.get(left).next))
 }
 
 /// A search by depth for strong components (Tarjan 1972).

@@ -3,7 +3,7 @@
 ghost use Rattle.std.specs.Prelude.{◌≡◌, ◌<◌, length, IfOk};
 ghost use Rattle.local_graph.specs.inner.Graph.{lists_of, AreWithin, edges_at, edge_at};
 
-use crate::compact_edge::CompactEdge;
+use crate::edges::{EdgeList, Edges};
 use crate::graph::Edge;
 use crate::narrow::narrow;
 use std::alloc::AllocError;
@@ -31,7 +31,7 @@ impl Span {
 /// The edges of each position.
 #[derive(Drop)]
 pub(crate) struct EdgeLists {
-    edges: Vec<CompactEdge>,
+    edges: EdgeList,
     spans: Vec<Span>,
 }
 
@@ -42,16 +42,16 @@ impl Model for EdgeLists {
 
     ghost Value = { List (List Edge) };
 
-    ghost view = { λ l. lists_of l.edges.items l.spans.items };
+    ghost view = { λ l. lists_of l.edges l.spans.items };
 
-    ghost invariant = { λ l. AreWithin (length l.edges.items) l.spans.items };
+    ghost invariant = { λ l. AreWithin (length l.edges) l.spans.items };
 }
 
 impl EdgeLists {
     /// The lists that spans name, one for each.
-    pub(crate) fn of(edges: Vec<CompactEdge>, spans: Vec<Span>) -> EdgeLists
-        requires { AreWithin (length edges.items) spans.items }
-        ensures { result ≡ lists_of edges.items spans.items }
+    pub(crate) fn of(edges: EdgeList, spans: Vec<Span>) -> EdgeLists
+        requires { AreWithin (length edges) spans.items }
+        ensures { result ≡ lists_of edges spans.items }
     {
         EdgeLists { edges, spans }
     }
@@ -64,20 +64,20 @@ impl EdgeLists {
     }
 
     /// The list at a place.
-    pub(crate) fn at(&self, place: usize) -> &[CompactEdge]
+    pub(crate) fn at(&self, place: usize) -> Edges<'_>
         requires { place < length self.now }
-        ensures { result.now ≡ edges_at self.now place }
+        ensures { result ≡ edges_at self.now place }
     {
         let span = self.spans[place];
-        &self.edges[span.start as usize..span.end as usize]
+        self.edges.part(span.start as usize, span.end as usize)
     }
 
     /// The list at a place, or none past the last.
-    pub(crate) fn any_at(&self, place: usize) -> &[CompactEdge] {
+    pub(crate) fn any_at(&self, place: usize) -> Edges<'_> {
         if place < self.len() {
             return self.at(place);
         }
-        &[]
+        Edges::none()
     }
 
     /// The edge with a number in the list at a place.
@@ -85,6 +85,6 @@ impl EdgeLists {
         requires { number < length (edges_at self.now place) }
         ensures { result ≡ edge_at self.now place number }
     {
-        self.at(place)[number].edge()
+        self.at(place).get(number)
     }
 }

@@ -2,9 +2,9 @@
 
 ghost use Rattle.std.specs.Prelude.{◌≡◌, ◌<◌, length, slice_index, slice_index_or, [], IfOk};
 
-use crate::compact_edge::CompactEdge;
 use crate::compact_graph::CompactGraph;
 use crate::edge_lists::EdgeLists;
+use crate::edges::Edges;
 use go_grid::Colour;
 use item_list::ItemList;
 use local_play::Local;
@@ -46,12 +46,12 @@ impl Model for Graph {
 }
 
 /// The edges at full length.
-fn at_length(alloc: Global, edges: &[CompactEdge]) -> Result<ItemList<Edge>, AllocError>
+fn at_length(alloc: Global, edges: &Edges<'_>) -> Result<ItemList<Edge>, AllocError>
     ensures { IfOk result (λ long. long ≡ edges.now) }
 {
     let mut long = ItemList::new(alloc);
-    for edge in edges {
-        long.push(edge.edge())?;
+    'listing: for number in 0..edges.len() {
+        long.push(edges.get(number))?;
     }
     Ok(long)
 }
@@ -62,7 +62,7 @@ fn all_at_length(alloc: Global, edges: &EdgeLists) -> Result<Vec<ItemList<Edge>>
 {
     let mut long = Vec::with_capacity(alloc, edges.len())?;
     'lists: for place in 0..edges.len() {
-        long.push(at_length(alloc, edges.at(place))?)?;
+        long.push(at_length(alloc, &edges.at(place))?)?;
     }
     Ok(long)
 }
@@ -92,7 +92,7 @@ impl Graph {
         })
     }
 
-    /// The graph with edges of half their length.
+    /// The graph with edges of a quarter of their length.
     pub fn compact(&self) -> &CompactGraph
         ensures { result.now ≡ self.now }
     {

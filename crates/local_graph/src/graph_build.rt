@@ -16,11 +16,11 @@ ghost use Rattle.local_graph.specs.inner.Graph.{lists_of, AreWithin};
 ghost use Rattle.local_graph.specs.inner.Found.{Placed, edge_of, Explored, AreAwaited};
 ghost use Rattle.local_graph.specs.inner.PlaceTable.{threes, IsPlaceTable, IsNumbered, ArePowers};
 
-use crate::compact_edge::CompactEdge;
 use crate::compact_graph::CompactGraph;
 use crate::cycle::CycleList;
 use crate::edge_lists::{EdgeLists, Span};
-use crate::graph::Graph;
+use crate::edges::EdgeList;
+use crate::graph::{Edge, Graph};
 use crate::numbers::{number_after, powers};
 use crate::place_table::{PlaceTable, threes};
 use crate::search::{Searched, search_from_opening};
@@ -109,11 +109,15 @@ fn place_of(table: &PlaceTable, position: Local, number: u64) -> Option<usize>
 }
 
 /// The edge of a move that leads to the position at a place.
-fn edge_of(step: &LocalMove, next: usize) -> CompactEdge
-    requires { next < 2 ^ 32 }
+fn edge_of(step: &LocalMove, next: usize) -> Edge
     ensures { result ≡ edge_of step.now next }
 {
-    CompactEdge::new(next, step.colour, step.place, step.taken)
+    Edge {
+        next,
+        colour: step.colour,
+        place: step.place,
+        taken: step.taken,
+    }
 }
 
 /// Puts the places from the number of spans on behind those that wait, and an empty span for each.
@@ -146,7 +150,7 @@ fn list_position<L: Ledger>(
     position: u64,
     limit: u32,
     steps: &mut Steps<L>,
-    edges: &mut Vec<CompactEdge>,
+    edges: &mut EdgeList,
 ) -> Result<(), GraphError>
     requires table { IsPlaceTable table.old }
     requires once { AllPairs (λ a b. a ≢ b) table.old.positions.items }
@@ -156,9 +160,9 @@ fn list_position<L: Ledger>(
     ensures edges { (touch : List Touch) (cells : List Cell) → IsTable touch links.now
         → length cells ≡ length touch → position ≡ pack cells
         → EdgesFrom touch cells table.old.positions.items limit table.new.positions.items
-        (drop (length edges.old.items) edges.new.items) result }
-    ensures behind { OnOk result (edges.new.items
-        ≡ edges.old.items ++ drop (length edges.old.items) edges.new.items) }
+        (drop (length edges.old) edges.new) result }
+    ensures behind { OnOk result (edges.new
+        ≡ edges.old ++ drop (length edges.old) edges.new) }
     ensures table { OnOk result (IsPlaceTable table.new) }
     ensures numbers { OnOk result (table.new.numbers ≡ table.old.numbers) }
     ensures step { steps.new ≡ steps.old + 1 }
@@ -169,11 +173,11 @@ fn list_position<L: Ledger>(
         'linking: while let Some(step) = moves.next(links) {
             let after = number_after(powers, number, &step);
             if let Some(place) = place_of(table, step.next, after) {
-                edges.push(edge_of(&step, place))?;
+                edges.push(&edge_of(&step, place))?;
                 continue;
             }
             let place = new_place(alloc, table, step.next, limit)?;
-            edges.push(edge_of(&step, place))?;
+            edges.push(&edge_of(&step, place))?;
         }
         if !moves.pass_on() {
             return Ok(());
@@ -184,7 +188,7 @@ fn list_position<L: Ledger>(
 /// The edges that were found, the span of them that is each position's, and the places that wait for their edges.
 #[derive(Drop)]
 pub(crate) struct Exploration {
-    edges: Vec<CompactEdge>,
+    edges: EdgeList,
     spans: Vec<Span>,
     waiting: Vec<usize>,
 }
@@ -205,7 +209,7 @@ fn begin(
 {
     new_place(alloc, table, start(region), limit)?;
     let mut found = Exploration {
-        edges: Vec::new(alloc),
+        edges: EdgeList::new(alloc),
         spans: Vec::new(alloc),
         waiting: Vec::new(alloc),
     };

@@ -3,11 +3,11 @@
 #![tactic(auto)]
 
 mod breadth;
-mod compact_edge;
 mod compact_graph;
 mod components;
 mod cycle;
 mod edge_lists;
+mod edges;
 mod graph;
 mod graph_build;
 mod laws;
@@ -18,12 +18,13 @@ mod place_table;
 mod return_graph;
 mod return_orders;
 mod search;
+mod short_edge;
 mod soonest_cycles;
 mod strong_components;
 
-pub use compact_edge::CompactEdge;
 pub use compact_graph::CompactGraph;
 pub use cycle::{CycleList, CycleMove};
+pub use edges::{EdgeList, Edges};
 pub use graph::{Edge, Graph, MOST_POSITIONS};
 pub use graph_build::{GraphError, build, build_compact};
 pub use laws::{cycles_take_both_ways, finite_local_play};

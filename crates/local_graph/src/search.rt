@@ -9,9 +9,9 @@ ghost use Rattle.local_graph.specs.inner.Searching.{Searching, Returns, Stepped,
 ghost use Rattle.local_graph.specs.inner.Graph.{edges_at, edge_at, no_edge};
 ghost use Rattle.local_graph.specs.declared.search.Visit.TheVariants.{OnPath, Placed};
 
-use crate::compact_edge::CompactEdge;
 use crate::cycle::{CycleList, CycleMove};
 use crate::edge_lists::EdgeLists;
+use crate::edges::Edges;
 use crate::narrow::narrow;
 use crate::soonest_cycles::soonest_cycle;
 use std::alloc::{AllocError, Global};
@@ -54,7 +54,7 @@ pub(crate) enum Progress {
 }
 
 /// The number of the last of the first so many edges that doesn't lead to a placed position, or 0 where there is none.
-fn last_unplaced(edges: &[CompactEdge], visits: &[Visit], left: usize) -> usize
+fn last_unplaced(edges: &Edges<'_>, visits: &[Visit], left: usize) -> usize
     requires some { 0 < left }
     requires within { left ≤ length edges.now }
     requires inside { (k : ℕ) → k < left
@@ -65,7 +65,7 @@ fn last_unplaced(edges: &[CompactEdge], visits: &[Visit], left: usize) -> usize
 {
     let mut at = left - 1;
     'skipping: while at > 0 {
-        match visits[edges[at].next()] {
+        match visits[edges.get(at).next] {
             Visit::Placed => at -= 1,
             Visit::OnPath => return at,
             Visit::New => return at,
@@ -131,7 +131,7 @@ impl Search {
     {
         Frame {
             node: last.node,
-            left: last_unplaced(edges.at(last.node), &self.visits, last.left),
+            left: last_unplaced(&edges.at(last.node), &self.visits, last.left),
         }
     }
 

@@ -20,7 +20,7 @@ use crate::values::value_of;
 use game_canon::FormError;
 use game_store::{GameId, Store};
 use go_grid::Colour;
-use local_graph::{CompactEdge, Edge, MOST_POSITIONS, ReturnGraph};
+use local_graph::{Edge, EdgeList, Edges, MOST_POSITIONS, ReturnGraph};
 use std::alloc::{AllocError, Global};
 
 /// Why there are no values: one that is needed has no form within the limits, or the region isn't steady at any budget up to
@@ -45,21 +45,22 @@ fn followed(
     owner: Colour,
     place: usize,
     has_budget: bool,
-    edge: &CompactEdge,
-) -> Option<CompactEdge>
+    edge: &Edge,
+) -> Option<Edge>
     requires few { length graph.now.positions ≤ MOST_POSITIONS }
     requires place { place < length graph.now.positions }
     requires next { edge.now.next < length graph.now.positions }
     ensures { IsFollowed owner graph.now.components place (length graph.now.positions) has_budget
         edge.now result }
 {
-    if !graph.is_returning_capture(place, &edge.edge(), owner) {
+    if !graph.is_returning_capture(place, edge, owner) {
         return Some(*edge);
     }
     if !has_budget {
         return None;
     }
-    Some(edge.further(graph.graph().len()))
+    let next = edge.next + graph.graph().len();
+    Some(Edge { next, ..*edge })
 }
 
 /// Whether a move of the position at a place is a capture by the owner that returns.
@@ -74,21 +75,22 @@ fn has_returning_capture(graph: &ReturnGraph, owner: Colour, place: usize) -> bo
     if !graph.has_cycle() {
         return false;
     }
-    for edge in graph.graph().edges(place) {
-        if graph.is_returning_capture(place, &edge.edge(), owner) {
+    let edges = graph.graph().edges(place);
+    'looking: for number in 0..edges.len() {
+        if graph.is_returning_capture(place, &edges.get(number), owner) {
             return true;
         }
     }
     false
 }
 
-/// Puts the edges of a place into `edges`, as they are followed in a layer.
+/// Puts the edges of a place into `followed_edges`, as they are followed in a layer.
 fn list_followed(
     graph: &ReturnGraph,
     owner: Colour,
     place: usize,
     has_budget: bool,
-    edges: &mut Vec<CompactEdge>,
+    followed_edges: &mut EdgeList,
 ) -> Result<(), AllocError>
     requires few { length graph.now.positions ≤ MOST_POSITIONS }
     requires place { place < length graph.now.positions }
@@ -96,12 +98,13 @@ fn list_followed(
         → e.next < length graph.now.positions }
     ensures { OnOk result (AreFollowed owner graph.now.components place
         (length graph.now.positions) has_budget (slice_index_or graph.now.edges place [])
-        edges.new.items) }
+        followed_edges.new) }
 {
-    edges.clear();
-    for edge in graph.graph().edges(place) {
-        match followed(graph, owner, place, has_budget, edge) {
-            Some(edge) => edges.push(edge)?,
+    followed_edges.clear();
+    let edges = graph.graph().edges(place);
+    'listing: for number in 0..edges.len() {
+        match followed(graph, owner, place, has_budget, &edges.get(number)) {
+            Some(edge) => followed_edges.push(&edge)?,
             None => {}
         }
     }
@@ -115,21 +118,21 @@ fn followed_edges<'a>(
     owner: Colour,
     place: usize,
     has_budget: bool,
-    room: &'a mut Vec<CompactEdge>,
-) -> Result<&'a [CompactEdge], AllocError>
+    room: &'a mut EdgeList,
+) -> Result<Edges<'a>, AllocError>
     requires few { length graph.now.positions ≤ MOST_POSITIONS }
     requires place { place < length graph.now.positions }
     requires next { (e : Edge) → Contains (slice_index_or graph.now.edges place []) e
         → e.next < length graph.now.positions }
     ensures { IfOk result (λ edges. AreFollowed owner graph.now.components place
         (length graph.now.positions) has_budget (slice_index_or graph.now.edges place [])
-        edges.now) }
+        edges) }
 {
     if !has_returning_capture(graph, owner, place) {
         return Ok(graph.graph().edges(place));
     }
     list_followed(graph, owner, place, has_budget, room)?;
-    Ok(room)
+    Ok(room.all())
 }
 
 /// Whether there is a layer.
@@ -174,13 +177,13 @@ fn is_unchanged(ids: &[ShortId], count: usize, edge: &Edge) -> bool
 }
 
 /// Whether the id behind each edge is as it was one layer before.
-fn are_unchanged(ids: &[ShortId], count: usize, edges: &[CompactEdge]) -> bool
+fn are_unchanged(ids: &[ShortId], count: usize, edges: &Edges<'_>) -> bool
     requires next { (f : Edge) → Contains edges.now f → f.next < length ids.now }
     requires few { length ids.now + count < 2 ^ 64 }
     ensures { IsTrue result → (f : Edge) → Contains edges.now f → IsUnchanged count ids.now f }
 {
-    for edge in edges {
-        if !is_unchanged(ids, count, &edge.edge()) {
+    'comparing: for number in 0..edges.len() {
+        if !is_unchanged(ids, count, &edges.get(number)) {
             return false;
         }
     }
@@ -188,7 +191,7 @@ fn are_unchanged(ids: &[ShortId], count: usize, edges: &[CompactEdge]) -> bool
 }
 
 /// The id of a place one layer before, where nothing behind its edges changed.
-fn kept_id(ids: &[ShortId], count: usize, place: usize, edges: &[CompactEdge]) -> Option<GameId>
+fn kept_id(ids: &[ShortId], count: usize, place: usize, edges: &Edges<'_>) -> Option<GameId>
     requires next { (f : Edge) → Contains edges.now f → f.next < length ids.now }
     requires place { place < length ids.now }
     requires few { length ids.now + count < 2 ^ 64 }
@@ -208,7 +211,7 @@ fn id_of(
     ids: &[ShortId],
     count: usize,
     place: usize,
-    edges: &[CompactEdge],
+    edges: &Edges<'_>,
     parts_limit: u32,
 ) -> Result<GameId, FormError>
     requires noted { (e : Edge) → Contains edges.now e → IsNoted store.old ids.now e.next }
@@ -259,11 +262,11 @@ fn layer(
     let count = graph.graph().len();
     let has_budget = has_layer(layers);
     let mut ids = room(alloc, count, layers)?;
-    let mut followed = Vec::new(alloc);
+    let mut followed = EdgeList::new(alloc);
     'valuing: for place in graph.order(owner) {
         let place = *place as usize;
         let edges = followed_edges(graph, owner, place, has_budget, &mut followed)?;
-        let id = id_of(alloc, store, memo, &ids, count, place, edges, parts_limit)?;
+        let id = id_of(alloc, store, memo, &ids, count, place, &edges, parts_limit)?;
         let short = shortened(id)?;
         ids[place] = short;
     }

@@ -24,7 +24,7 @@ use game_canon::FormError;
 use game_store::{GameId, Store};
 use go_grid::Colour;
 use item_list::ItemList;
-use local_graph::{CompactEdge, CompactGraph, Edge, Graph, MOST_POSITIONS};
+use local_graph::{CompactGraph, Edge, Edges, Graph, MOST_POSITIONS};
 use std::alloc::{AllocError, Global};
 
 /// Ids of a store, one for each position of a graph, by its place.
@@ -80,7 +80,7 @@ fn list_options(
     store: &mut Store,
     sums: &mut SumTable,
     ids: &[ShortId],
-    edges: &[CompactEdge],
+    edges: &Edges<'_>,
     options: &mut Vec<u32>,
 ) -> Result<u32, AllocError>
     requires noted { (e : Edge) → Contains edges.now e → IsNoted store.old ids.now e.next }
@@ -94,10 +94,10 @@ fn list_options(
 {
     options.clear();
     let mut hash = 0;
-    for edge in edges {
-        let full = edge.edge();
-        let after = value_after(alloc, store, sums, ids, &full)?;
-        let option = add_option(options, full.colour, after)?;
+    'listing: for number in 0..edges.len() {
+        let edge = edges.get(number);
+        let after = value_after(alloc, store, sums, ids, &edge)?;
+        let option = add_option(options, edge.colour, after)?;
         hash = mixed(hash, option);
     }
     Ok(folded(hash))
@@ -109,7 +109,7 @@ pub(crate) fn value_of(
     store: &mut Store,
     memo: &mut Memo,
     ids: &[ShortId],
-    edges: &[CompactEdge],
+    edges: &Edges<'_>,
     parts_limit: u32,
 ) -> Result<GameId, FormError>
     requires noted { (e : Edge) → Contains edges.now e → IsNoted store.old ids.now e.next }
@@ -166,7 +166,7 @@ fn value_places(
     'valuing: for place in graph.order() {
         let place = *place as usize;
         let edges = graph.edges(place);
-        let id = value_of(alloc, store, memo, ids, edges, parts_limit)?;
+        let id = value_of(alloc, store, memo, ids, &edges, parts_limit)?;
         let short = shortened(id)?;
         ids[place] = short;
     }

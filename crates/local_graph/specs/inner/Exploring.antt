@@ -39,8 +39,8 @@ pub record IsExploring (touch : List Touch) (opening : List Cell) (limit places 
   pub full : length opening ≡ places
   pub table : IsPlaceTable t
   pub numbers : t.numbers ≡ 3 ^ places
-  pub so_far : Exploring touch opening limit t.positions.items (lists_of found.edges.items found.spans.items) found.waiting.items
-  pub within : AreWithin (length found.edges.items) found.spans.items
+  pub so_far : Exploring touch opening limit t.positions.items (lists_of found.edges found.spans.items) found.waiting.items
+  pub within : AreWithin (length found.edges) found.spans.items
 
 -- the opening was found, and waits
 abbrev pub Begun : List Touch → List Cell → ℕ → ℕ → PlaceTable → Result Exploration GraphError → Type 0
@@ -51,8 +51,8 @@ Begun touch opening limit places table (Err e) = Explored touch opening limit ta
 -- nothing waits any more, or more positions are reachable than the limit
 abbrev pub Ended : List Touch → List Cell → ℕ → List ℕ → Exploration → Result (Unit {0}) GraphError → Type 0
 Ended touch opening limit positions found (Ok done) =
-    IsGraph touch opening positions (lists_of found.edges.items found.spans.items) × (length positions ≤ limit)
-    × AreWithin (length found.edges.items) found.spans.items
+    IsGraph touch opening positions (lists_of found.edges found.spans.items) × (length positions ≤ limit)
+    × AreWithin (length found.edges) found.spans.items
 Ended touch opening limit positions found (Err e) = Explored touch opening limit positions (Err e)
 
 -- the links are those of a region of at most 32 places, and the number is that of a position of it, which has one of so many numbers in base 3

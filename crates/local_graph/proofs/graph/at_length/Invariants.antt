@@ -1,5 +1,5 @@
-use Rattle.std.proofs.Common.{◌≡◌, take}
+use Rattle.std.proofs.Common.{◌≡◌, ◌≤◌, take, length}
 use Rattle.local_graph.proofs.graph.at_length.Given as goal
 
-abbrev pub invariant-loop-edge : goal.invariant-loop-edge
-invariant-loop-edge l = l.long ≡ take l.edge-index l.edges
+abbrev pub invariant-listing : goal.invariant-listing
+invariant-listing l = (l.long ≡ take l.number l.edges) × (l.number ≤ length l.edges)

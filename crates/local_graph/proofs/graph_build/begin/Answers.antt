@@ -22,7 +22,7 @@ returns-in_err-await_new c = let p = err_from_is_err_and c.from_residual-in_err-
 pub returns : goal.returns
 returns c =
     let full : c.len.result ≡ length c.new_place.new.table.positions.items = omega (arith, c.len.ensures, c.new_place.new.table.positions.ok) in
-    let edges = c.new.result.items in
+    let edges = c.new.result in
     let awaited = c.in_ok-await_new.ensures.awaited edges in (
       record {
         full = c.start.ensures.full;

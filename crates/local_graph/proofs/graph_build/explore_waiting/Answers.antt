@@ -52,7 +52,7 @@ returns-in_err-list_position-clause-ended g c =
     let full = next.long ∙ u.full ∙ sym c.of-links.ensures.full in
     let edges = c.in_err-list_position.ensures.edges c.args.region.now.touch next.cells c.of-links.ensures.table full next.packed in
     let p = err_from_is_err_and c.from_residual.result c.from_residual.ensures.1 in
-    rw (p.1, p.2) (explored_fails _ _ _ _ _ _ _ (drop (length c.exploring.found.edges.items) c.list_position.new.edges.items) _ s.reachable next edges)
+    rw (p.1, p.2) (explored_fails _ _ _ _ _ _ _ (drop (length c.exploring.found.edges) c.list_position.new.edges) _ s.reachable next edges)
 
 pub index_mut-requires : goal.index_mut-requires
 index_mut-requires g c =
@@ -60,7 +60,7 @@ index_mut-requires g c =
     let s = u.so_far in
     let inside = last_waiting _ _ _ _ _ _ c.pop.new.self.items c.in-Some.place s c.in-Some.ensures.items in
     let spans = c.exploring.found.spans in
-    omega (arith, inside, s.beside, length-map spans.items (part c.exploring.found.edges.items), spans.ok)
+    omega (arith, inside, s.beside, length-map spans.items (part c.exploring.found.edges), spans.ok)
 
 pub await_new-requires : goal.await_new-requires
 await_new-requires g c =
@@ -78,18 +78,18 @@ await_new-requires g c =
       c.len.ensures,
       found.ok,
       length-set spans c.in-Some.place c.in_ok-span.span,
-      length-map spans (part c.exploring.found.edges.items),
+      length-map spans (part c.exploring.found.edges),
       s.beside,
       more,
     )
 
 pub exploring-preserved : goal.exploring-preserved
 exploring-preserved g c =
-    let edges = c.exploring.found.edges.items in
+    let edges = c.exploring.found.edges in
     let after = c.list_position.new.edges in
     let span : Span = c.in_ok-span.span in
-    let from : span.start ≡ length edges = omega (arith, ap (λ (s : Span). s.start) c.in_ok-span.ensures, c.len-first.ensures, c.exploring.found.edges.ok) in
-    let to : span.end ≡ length after.items = omega (arith, ap (λ (s : Span). s.end) c.in_ok-span.ensures, c.len-end.ensures, after.ok) in
+    let from : span.start ≡ length edges = omega (arith, ap (λ (s : Span). s.start) c.in_ok-span.ensures, c.len-first.ensures) in
+    let to : span.end ≡ length after = omega (arith, ap (λ (s : Span). s.end) c.in_ok-span.ensures, c.len-end.ensures) in
     let found = c.list_position.new.table.positions in
     let count : c.len.result ≡ length found.items = omega (arith, c.len.ensures, found.ok) in
     let u = c.exploring.invariant.under_way in
@@ -98,11 +98,11 @@ exploring-preserved g c =
     let next = next_position c.args.region.now.touch c.args.region.now.cells _ _ _ s.reachable inside c.index-position.ensures in
     let full = next.long ∙ u.full ∙ sym c.of-links.ensures.full in
     let listed = c.in_ok-list_position.ensures.edges c.args.region.now.touch next.cells c.of-links.ensures.table full next.packed in
-    let behind = drop (length edges) after.items in
+    let behind = drop (length edges) after in
     let spans = c.exploring.found.spans.items in
-    let put = lists_put edges behind after.items spans _ span c.in-Some.place u.within c.in_ok-list_position.ensures.behind refl from to in
-    let within = within_put edges behind after.items spans _ span c.in-Some.place u.within c.in_ok-list_position.ensures.behind refl from to in
-    let awaited = c.in_ok-await_new.ensures.awaited after.items in
+    let put = lists_put edges behind after spans _ span c.in-Some.place u.within c.in_ok-list_position.ensures.behind refl from to in
+    let within = within_put edges behind after spans _ span c.in-Some.place u.within c.in_ok-list_position.ensures.behind refl from to in
+    let awaited = c.in_ok-await_new.ensures.awaited after in
     record {
       under_way = record {
         full = u.full;
@@ -110,7 +110,7 @@ exploring-preserved g c =
         numbers = c.in_ok-list_position.ensures.numbers ∙ u.numbers;
         so_far = explored_more c.args.region.now.touch c.args.region.now.cells c.args.limit _ _ (lists_of edges spans) _ _ _ _ _ _ _ c.len.result
             listed.0 behind c.in_ok-list_position.field-0 s c.in-Some.ensures.items next listed.1 listed.2 put count awaited;
-        within = c.in_ok-await_new.ensures.within (length after.items) within;
+        within = c.in_ok-await_new.ensures.within (length after) within;
       };
       counted = omega (
         arith,
@@ -135,7 +135,7 @@ exploring-smaller g c =
     let full = next.long ∙ u.full ∙ sym c.of-links.ensures.full in
     let listed = c.in_ok-list_position.ensures.edges c.args.region.now.touch next.cells c.of-links.ensures.table full next.packed in
     let spans = c.exploring.found.spans.items in
-    let after = c.list_position.new.edges.items in
+    let after = c.list_position.new.edges in
     let found = c.list_position.new.table.positions in
     let awaited = c.in_ok-await_new.ensures.awaited after in
     omega (
@@ -147,7 +147,7 @@ exploring-smaller g c =
       found.ok,
       length-set spans c.in-Some.place c.in_ok-span.span,
       length-map (set spans c.in-Some.place c.in_ok-span.span) (part after),
-      length-map spans (part c.exploring.found.edges.items),
+      length-map spans (part c.exploring.found.edges),
       s.beside,
       ap length c.in-Some.ensures.items,
       length_push c.pop.new.self.items c.in-Some.place,

@@ -14,7 +14,7 @@ turns-init g c = record {
   given = [];
   have = c.of-moves.ensures.none;
   behind = [];
-  appended = sym (append-nil c.args.edges.now.items);
+  appended = sym (append-nil c.args.edges.now);
   linking = linking_start _ c.args.limit c.requires.once c.requires.few;
   table = c.requires.table;
   numbers = refl;
@@ -49,7 +49,7 @@ linking-preserved-in-Some-place_of g c =
       given = so_far.given ++ c.in-Some.step ∷ [];
       have = λ touch cells table long packed. c.in-Some.ensures.given touch cells so_far.given table (so_far.have touch cells table long packed);
       behind = so_far.behind ++ c.edge_of.result ∷ [];
-      appended = one_behind c.args.edges.now.items so_far.behind c.linking.edges.items c.push.new.self.items c.edge_of.result so_far.appended c.in_ok-push.ensures.items;
+      appended = one_behind c.args.edges.now so_far.behind c.linking.edges c.push.new.self c.edge_of.result so_far.appended c.in_ok-push.ensures.behind;
       linking = linking_edge c.args.table.now.positions.items c.linking.table.positions.items c.linking.table.positions.items so_far.given c.args.limit
           so_far.behind c.in-Some.step c.edge_of.result c.in-Some-place_of.place so_far.linking
           (inl refl) so_far.linking.few found.0 found.1 c.edge_of.ensures;
@@ -72,7 +72,7 @@ returns-in_err-place-clause-edges g c touch cells table long packed =
     let so_far = c.linking.invariant in
     let have = c.in-Some.ensures.given touch cells so_far.given table (so_far.have touch cells table long packed) in
     rw (e.1, e.2)
-    (edges_err touch cells _ _ _ so_far.given _ so_far.behind (drop (length c.args.edges.now.items) c.linking.edges.items) c.in-Some.step _
+    (edges_err touch cells _ _ _ so_far.given _ so_far.behind (drop (length c.args.edges.now) c.linking.edges) c.in-Some.step _
     (given_legal touch cells _ c.next.new.self have) so_far.linking c.in_err-place.ensures.placed)
 
 pub linking-preserved : goal.linking-preserved
@@ -83,7 +83,7 @@ linking-preserved g c =
       given = so_far.given ++ c.in-Some.step ∷ [];
       have = λ touch cells table long packed. c.in-Some.ensures.given touch cells so_far.given table (so_far.have touch cells table long packed);
       behind = so_far.behind ++ c.edge_of-in-Some.result ∷ [];
-      appended = one_behind c.args.edges.now.items so_far.behind c.linking.edges.items c.push-in-Some.new.self.items c.edge_of-in-Some.result so_far.appended c.in_ok-push-2.ensures.items;
+      appended = one_behind c.args.edges.now so_far.behind c.linking.edges c.push-in-Some.new.self c.edge_of-in-Some.result so_far.appended c.in_ok-push-2.ensures.behind;
       linking = linking_edge c.args.table.now.positions.items c.linking.table.positions.items c.new_place.new.table.positions.items so_far.given c.args.limit
           so_far.behind c.in-Some.step c.edge_of-in-Some.result c.in_ok-place.place so_far.linking
           placed.0 placed.3 placed.1 placed.2 c.edge_of-in-Some.ensures;

@@ -16,7 +16,7 @@ invariant-turns g l = record {
   have : (touch : List Touch) (cells : List Cell) → IsTable touch l.links → length cells ≡ length touch → l.fn.position ≡ pack cells
       → HaveGiven touch cells given l.moves;
   behind : List Edge;
-  appended : l.edges.items ≡ l.fn.edges.items ++ behind;
+  appended : l.edges ≡ l.fn.edges ++ behind;
   linking : Linking l.fn.table.positions.items given l.fn.limit l.table.positions.items behind;
   table : IsPlaceTable l.table;
   numbers : l.table.numbers ≡ l.fn.table.numbers;
@@ -31,7 +31,7 @@ invariant-linking g l = record {
   have : (touch : List Touch) (cells : List Cell) → IsTable touch l.links → length cells ≡ length touch → l.fn.position ≡ pack cells
       → HaveGiven touch cells given l.moves;
   behind : List Edge;
-  appended : l.edges.items ≡ l.fn.edges.items ++ behind;
+  appended : l.edges ≡ l.fn.edges ++ behind;
   linking : Linking l.fn.table.positions.items given l.fn.limit l.table.positions.items behind;
   table : IsPlaceTable l.table;
   numbers : l.table.numbers ≡ l.fn.table.numbers;

@@ -3,5 +3,5 @@ use Rattle.local_graph.specs.declared.graph.Edge.{Edge}
 use Rattle.local_value.specs.inner.Layers.{IsUnchanged}
 use Rattle.local_value.proofs.budgets.are_unchanged.Given as goal
 
-abbrev pub invariant-loop-edge : goal.invariant-loop-edge
-invariant-loop-edge l = (f : Edge) → Contains (take l.edge-index l.edges) f → IsUnchanged l.count l.ids f
+abbrev pub invariant-comparing : goal.invariant-comparing
+invariant-comparing l = (f : Edge) → Contains (take l.number l.edges) f → IsUnchanged l.count l.ids f

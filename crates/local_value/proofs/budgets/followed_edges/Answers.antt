@@ -6,7 +6,7 @@ use Rattle.local_value.proofs.budgets.followed_edges.Goals as goal
 
 pub returns-then-not-has_returning_capture : goal.returns-then-not-has_returning_capture
 returns-then-not-has_returning_capture c =
-    let same : c.edges.result.now ≡ slice_index_or c.args.graph.now.edges c.args.place [] =
+    let same : c.edges.result ≡ slice_index_or c.args.graph.now.edges c.args.place [] =
     c.edges.ensures ∙ ap (λ (z : List (List Edge)). slice_index_or z c.args.place []) c.graph.ensures.edges in
     subst (AreFollowed c.args.owner c.args.graph.now.components c.args.place (length c.args.graph.now.positions) c.args.has_budget
     (slice_index_or c.args.graph.now.edges c.args.place [])) (sym same)

@@ -70,8 +70,8 @@ valuing-preserved c = record {
       ((layer-call of (c.valuing.invariant.pass r of before) c.order-place-items.ensures c.deref.ensures.value
       refl c.valuing-test.true c.in_ok-edges.ensures).step
       c.id_of.new.store c.in_ok-id.id c.id_of.ensures.kept
-      (subst (λ n. IsKept n c.deref.result.now (get_or c.order-place-items.result.now c.valuing.place-index 0) c.in_ok-edges.edges.now c.in_ok-id.id ⊎ IsMade c.valuing.store c.id_of.new.store c.deref.result.now
-      c.args.parts_limit c.in_ok-edges.edges.now c.in_ok-id.id) (c.len-count.ensures ∙ ap (λ (z : List ℕ). length z) c.graph.ensures.positions) c.in_ok-id.ensures.id));
+      (subst (λ n. IsKept n c.deref.result.now (get_or c.order-place-items.result.now c.valuing.place-index 0) c.in_ok-edges.edges c.in_ok-id.id ⊎ IsMade c.valuing.store c.id_of.new.store c.deref.result.now
+      c.args.parts_limit c.in_ok-edges.edges c.in_ok-id.id) (c.len-count.ensures ∙ ap (λ (z : List ℕ). length z) c.graph.ensures.positions) c.in_ok-id.ensures.id));
   memo = c.in_ok-id.ensures.memo;
 }
 

@@ -2,7 +2,6 @@ use Rattle.std.proofs.Common.{◌≡◌, ◌<◌, refl, sym, length, ap, ◌∙�
 use Rattle.std.proofs.lemmas.List.Elements.{Contains-get_or}
 use Rattle.local_graph.specs.declared.graph.Edge.{Edge}
 use Rattle.local_graph.specs.inner.Graph.{edges_at, no_edge}
-use Rattle.local_graph.proofs.EdgeListLemmas.{edge_read}
 use Rattle.local_value.specs.inner.Layers.{IsFollowed}
 use Rattle.local_value.proofs.LayerLaws.{followed-on}
 use Rattle.local_value.proofs.budgets.list_followed.Goals as goal
@@ -10,22 +9,22 @@ use Rattle.local_value.proofs.budgets.list_followed.Goals.{in-Some+in_ok-push-in
 
 pub followed-requires-clause-next : goal.followed-requires-clause-next
 followed-requires-clause-next c =
-    let same : c.edges-edge-items.result.now ≡ edges_at c.args.graph.now.edges c.args.place =
-    c.edges-edge-items.ensures ∙ ap (λ (z : List (List Edge)). slice_index_or z c.args.place []) c.graph.ensures.edges in
+    let same : c.edges-edges.result ≡ edges_at c.args.graph.now.edges c.args.place =
+    c.edges-edges.ensures ∙ ap (λ (z : List (List Edge)). slice_index_or z c.args.place []) c.graph.ensures.edges in
     subst (λ (e : Edge). e.next < length c.args.graph.now.positions)
-    (sym (edge_read c.edges-edge-items.result.now c.loop-edge-test.true c.edge-item.is refl))
-    (c.requires.next _ (subst (λ es. Contains es (slice_index_or c.edges-edge-items.result.now c.loop-edge.edge-index no_edge)) same
-    (Contains-get_or c.edges-edge-items.result.now c.loop-edge.edge-index no_edge c.loop-edge-test.true)))
+    (sym c.get.ensures)
+    (c.requires.next _ (subst (λ es. Contains es (slice_index_or c.edges-edges.result c.listing.number no_edge)) same
+    (Contains-get_or c.edges-edges.result c.listing.number no_edge (subst (λ n. c.listing.number < n) c.len-number-end.ensures c.listing-test.true))))
 
-pub loop-edge-preserved : goal.loop-edge-preserved
-loop-edge-preserved c =
+pub listing-preserved : goal.listing-preserved
+listing-preserved c =
     let edges = edges_at c.args.graph.now.edges c.args.place in
-    let same : c.edges-edge-items.result.now ≡ edges =
-    c.edges-edge-items.ensures ∙ ap (λ (z : List (List Edge)). slice_index_or z c.args.place []) c.graph.ensures.edges in
-    let it = edge_read c.edges-edge-items.result.now c.loop-edge-test.true c.edge-item.is refl in
+    let same : c.edges-edges.result ≡ edges =
+    c.edges-edges.ensures ∙ ap (λ (z : List (List Edge)). slice_index_or z c.args.place []) c.graph.ensures.edges in
+    let it = c.get.ensures in
     elim c.match-followed.branch [
-      | in-Some+in_ok-push-in-Some w ↦ followed-on edges c.loop-edge.edges.items _ c.loop-edge.edge-index (Some w.in-Some.edge) _ same c.loop-edge.invariant
-          c.loop-edge-test.true (subst (λ (e : Edge). IsFollowed c.args.owner c.args.graph.now.components c.args.place (length c.args.graph.now.positions) c.args.has_budget e (Some w.in-Some.edge)) it (w.in-Some.ensures {u = tt})) (ap (λ v. v.items) w.edges-is ∙ (w.in_ok-push-in-Some.ensures {u = tt}).items)
-      | in-None w ↦ followed-on edges c.loop-edge.edges.items _ c.loop-edge.edge-index None _ same c.loop-edge.invariant
-          c.loop-edge-test.true (subst (λ (e : Edge). IsFollowed c.args.owner c.args.graph.now.components c.args.place (length c.args.graph.now.positions) c.args.has_budget e None) it (w.in-None.ensures {u = tt})) (ap (λ v. v.items) w.edges-is)
+      | in-Some+in_ok-push-in-Some w ↦ followed-on edges c.listing.followed_edges _ c.listing.number (Some w.in-Some.edge) _ same c.listing.invariant
+          (subst (λ n. c.listing.number < n) c.len-number-end.ensures c.listing-test.true) (subst (λ (e : Edge). IsFollowed c.args.owner c.args.graph.now.components c.args.place (length c.args.graph.now.positions) c.args.has_budget e (Some w.in-Some.edge)) it (w.in-Some.ensures {u = tt})) (w.followed_edges-is ∙ (w.in_ok-push-in-Some.ensures {u = tt}).behind)
+      | in-None w ↦ followed-on edges c.listing.followed_edges _ c.listing.number None _ same c.listing.invariant
+          (subst (λ n. c.listing.number < n) c.len-number-end.ensures c.listing-test.true) (subst (λ (e : Edge). IsFollowed c.args.owner c.args.graph.now.components c.args.place (length c.args.graph.now.positions) c.args.has_budget e None) it (w.in-None.ensures {u = tt})) w.followed_edges-is
     ]

@@ -3,6 +3,6 @@ use Rattle.local_graph.specs.inner.Graph.{edges_at}
 use Rattle.local_value.specs.inner.Layers.{AreFollowed}
 use Rattle.local_value.proofs.budgets.list_followed.Given as goal
 
-abbrev pub invariant-loop-edge : goal.invariant-loop-edge
-invariant-loop-edge l =
-    AreFollowed l.owner l.graph.components l.place (length l.graph.positions) l.has_budget (take l.edge-index (edges_at l.graph.edges l.place)) l.edges.items
+abbrev pub invariant-listing : goal.invariant-listing
+invariant-listing l =
+    AreFollowed l.owner l.graph.components l.place (length l.graph.positions) l.has_budget (take l.number (edges_at l.graph.edges l.place)) l.followed_edges

@@ -3,9 +3,9 @@ use Rattle.local_value.specs.Remembered.{AreStonesSumsRight, options_of}
 use Rattle.local_value.proofs.OptionsLaws.{IsListing}
 use Rattle.local_value.proofs.values.list_options.Given as goal
 
-abbrev pub invariant-loop-edge : goal.invariant-loop-edge
-invariant-loop-edge l = record {
-  left : IsListing l.fn.store l.store l.ids Black l.edges l.edge-index (options_of Black l.options.items);
-  right : IsListing l.fn.store l.store l.ids White l.edges l.edge-index (options_of White l.options.items);
+abbrev pub invariant-listing : goal.invariant-listing
+invariant-listing l = record {
+  left : IsListing l.fn.store l.store l.ids Black l.edges l.number (options_of Black l.options.items);
+  right : IsListing l.fn.store l.store l.ids White l.edges l.number (options_of White l.options.items);
   sums : AreStonesSumsRight l.store l.sums;
 }

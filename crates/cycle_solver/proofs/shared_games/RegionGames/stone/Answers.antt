@@ -21,5 +21,5 @@ returns c =
     let edges = c.edges-edges.ensures ∙ ap (λ es. edges_at es c.args.place) c.graph.ensures.edges in
     let all = ap (λ games. edges_at (game_at games k).graph.edges c.args.place) (sym c.self.view_is)
     ∙ edges_shown book k c.args.place v c.index.result.now lt inside c.index-view.ensures c.index.ensures ∙ ap (own_edges v) (sym edges) in
-    stones_over c.args.region.now c.args.colour c.args.point v c.edges-edges.result.now (edges_at (game_at c.args.self.now k).graph.edges c.args.place) all
+    stones_over c.args.region.now c.args.colour c.args.point v c.edges-edges.result (edges_at (game_at c.args.self.now k).graph.edges c.args.place) all
     c.edge_in.result c.edge_in.ensures
