@@ -134,8 +134,10 @@ fn await_new(
         → AreWithin edges spans.new.items) }
 {
     'awaiting: while spans.len() < count {
-        waiting.push(spans.len())?;
-        spans.push(Span { start: 0, end: 0 })?;
+        waiting.reserve(1)?;
+        waiting.push_reserved(spans.len());
+        spans.reserve(1)?;
+        spans.push_reserved(Span { start: 0, end: 0 });
     }
     Ok(())
 }
@@ -325,7 +327,7 @@ pub fn build_compact<L: Ledger>(
     if points > 32 {
         return Err(GraphError::Points(points as u16));
     }
-    let mut found = PlaceTable::new(alloc, points)?;
+    let mut found = PlaceTable::new(alloc, points);
     let edges = explore(alloc, region, limit, &mut found, steps)?;
     order_graph(alloc, positions_of(found), edges)
 }

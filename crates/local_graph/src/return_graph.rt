@@ -164,7 +164,7 @@ pub fn build_with_returns<L: Ledger>(
     if points > 32 {
         return Err(GraphError::Points(points as u16));
     }
-    let mut found = PlaceTable::new(alloc, points)?;
+    let mut found = PlaceTable::new(alloc, points);
     let edges = explore(alloc, region, limit, &mut found, steps)?;
     let graph = tell_returns(alloc, positions_of(found), edges)?;
     Ok(graph)

@@ -86,10 +86,9 @@ impl Search {
         ensures fits { length (edges_at edges.now node) < 2 ^ 64 }
     {
         self.visits[node] = Visit::OnPath;
-        self.path.push(Frame {
-            node,
-            left: edges.at(node).len(),
-        })?;
+        let left = edges.at(node).len();
+        self.path.reserve(1)?;
+        self.path.push_reserved(Frame { node, left });
         Ok(())
     }
 
@@ -101,7 +100,8 @@ impl Search {
         ensures order { OnOk result (self.new.order.items ≡ self.old.order.items ++ node ∷ []) }
     {
         self.visits[node] = Visit::Placed;
-        self.order.push(narrow(node)?)?;
+        self.order.reserve(1)?;
+        self.order.push_reserved(narrow(node)?);
         Ok(())
     }
 

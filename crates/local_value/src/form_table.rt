@@ -4,7 +4,7 @@ ghost use Rattle.std.specs.Prelude.{◌≡◌, ◌+◌, ◌^◌, ◌<◌, ◌≤
 ghost use Rattle.local_value.specs.inner.Tables.{Learns};
 
 use crate::chains::Chains;
-use crate::options::MOST_IDS;
+use crate::options::{MOST_IDS, are_same};
 use game_store::GameId;
 use std::alloc::{AllocError, Global};
 use std::marker::Model;
@@ -70,7 +70,7 @@ impl FormTable {
             return None;
         }
         let form = self.forms[place];
-        if &self.pool[form.start as usize..form.end as usize] == options {
+        if are_same(&self.pool[form.start as usize..form.end as usize], options) {
             return Some(GameId::from(form.id));
         }
         None

@@ -1,6 +1,7 @@
 //! The options of a position as one list of numbers.
 
-ghost use Rattle.std.specs.Prelude.{◌≡◌, ◌+◌, ◌*◌, ◌↔◌, ℕ, Contains, IfOk, OnOk};
+ghost use Rattle.std.specs.Prelude.{◌≡◌, ◌+◌, ◌*◌, ◌<◌, ◌↔◌, ℕ, Contains, IfOk, OnOk, IsTrue};
+ghost use Rattle.std.specs.Vec.{vec_len, vec_capacity};
 ghost use Rattle.local_value.specs.Remembered.{side, option_for, options_of};
 ghost use Rattle.local_value.specs.inner.Options.{IsAdded};
 
@@ -27,17 +28,20 @@ fn number_of(player: Colour, id: GameId) -> Result<u32, AllocError>
     }
 }
 
-/// Puts one more option of a player behind the others. The answer is its number.
+/// Puts one more option of a player behind the others, for which there is room. The answer is its number.
 #[inline(always)]
 pub(crate) fn add_option(
     options: &mut Vec<u32>,
     player: Colour,
     id: GameId,
 ) -> Result<u32, AllocError>
-    ensures { OnOk result (IsAdded player id options.old.items options.new.items) }
+    requires room { vec_len options.old < vec_capacity options.old }
+    ensures added { OnOk result (IsAdded player id options.old.items options.new.items) }
+    ensures one { OnOk result (vec_len options.new ≡ vec_len options.old + 1) }
+    ensures capacity { vec_capacity options.new ≡ vec_capacity options.old }
 {
     let option = number_of(player, id)?;
-    options.push(option)?;
+    options.push_reserved(option);
     Ok(option)
 }
 
@@ -61,6 +65,22 @@ pub(crate) fn hash_of(options: &[u32]) -> u32 {
         hash = mixed(hash, *option);
     }
     folded(hash)
+}
+
+/// Whether two lists are the same.
+#[inline(always)]
+pub(crate) fn are_same(options: &[u32], others: &[u32]) -> bool
+    ensures { IsTrue result → options.now ≡ others.now }
+{
+    if options.len() != others.len() {
+        return false;
+    }
+    'comparing: for at in 0..options.len() {
+        if options[at] != others[at] {
+            return false;
+        }
+    }
+    true
 }
 
 /// The same options in ascending order.

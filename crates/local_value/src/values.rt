@@ -93,6 +93,7 @@ fn list_options(
     ensures kept { Extends store.old store.new }
 {
     options.clear();
+    options.reserve(edges.len())?;
     let mut hash = 0;
     'listing: for number in 0..edges.len() {
         let edge = edges.get(number);

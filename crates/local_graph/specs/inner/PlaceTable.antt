@@ -1,5 +1,6 @@
--- A table of the places of positions: each slot has a chain of links, from the position that was entered there last back.
-use Rattle.std.specs.Prelude.{◌≡◌, ℕ, suc, ◌+◌, ◌-◌, ◌*◌, ◌/◌, ◌%◌, ◌^◌, ◌<◌, ◌≤◌, List, length, slice_index, Contains, bit_and, cond, nat_lt}
+-- A table of the places of positions.
+use Rattle.std.specs.Prelude.{◌≡◌, ◌≢◌, ◌⊎◌, ℕ, suc, ◌+◌, ◌-◌, ◌*◌, ◌/◌, ◌%◌, ◌^◌, ◌<◌, ◌≤◌, List, [], length, slice_index, Contains, bit_and}
+use Rattle.std.specs.List.{AllPairs}
 use Rattle.go_grid.specs.declared.grid.Cell.{Cell}
 use Rattle.go_grid.specs.Board.{stone}
 use Rattle.local_play.specs.Packed.{code, pack}
@@ -33,27 +34,24 @@ pub record AddsDigit (from : ℕ) (m : LocalMove) : Type 0 where
 abbrev pub IsNumbered : ℕ → ℕ → Type 0
 IsNumbered numbers n = (cells : List Cell) × (length cells ≤ 32) × (3 ^ length cells ≤ numbers) × (n ≡ pack cells)
 
--- the slot of a position, of so many: its number in base 3, and only the lowest bits of it where there are fewer slots than numbers
-unfoldable pub slot_of : ℕ → ℕ → ℕ → ℕ
-slot_of n slots numbers = cond (nat_lt slots numbers) (bit_and (threes n) (slots - 1)) (threes n)
+-- each of the first so many positions stands in the slot of its number, as one more than its place, and nothing else stands in a slot
+pub record AreEntered (positions slots : List ℕ) (count : ℕ) : Type 0 where
+  pub each : (i : ℕ) → i < count → slice_index slots (threes (slice_index positions i)) ≡ suc i
+  pub own : (number place : ℕ) → slice_index slots number ≡ suc place → (place < count) × (threes (slice_index positions place) ≡ number)
 
--- the links lead to the place: a link is one more than a place, and 0 leads nowhere
-pub data LinksLead (before : List ℕ) : ℕ → ℕ → Type 0 where
-  here : (i : ℕ) → LinksLead before (suc i) i
-  onward : (i place : ℕ) → LinksLead before (slice_index before i) place → LinksLead before (suc i) place
+-- there are no slots, and the set has the positions
+pub record HasFew (t : PlaceTable) : Type 0 where
+  pub none : t.slots.items ≡ []
+  pub keys : t.few.keys ≡ t.positions.items
 
--- the table has the first positions, as many as there are links to the ones before
-pub record AreEntered (positions latest before : List ℕ) (numbers : ℕ) : Type 0 where
-  pub some : 0 < length latest
-  pub within : length before ≤ length positions
-  pub links : (slot : ℕ) → slice_index latest slot ≤ length before
-  pub falls : (i : ℕ) → slice_index before i ≤ i
-  pub each : (i : ℕ) → i < length before → LinksLead before (slice_index latest (slot_of (slice_index positions i) (length latest) numbers)) i
-  pub own : (slot place : ℕ) → slice_index latest slot ≡ suc place → slot_of (slice_index positions place) (length latest) numbers ≡ slot
+-- each number has a slot, and the slots have the positions
+pub record HasSlots (t : PlaceTable) : Type 0 where
+  pub enough : t.numbers ≤ length t.slots.items
+  pub entered : AreEntered t.positions.items t.slots.items (length t.positions.items)
 
--- the table has all positions, each of which has one of its numbers
+-- the positions are all different, each has one of its numbers, and a table has all of them
 pub record IsPlaceTable (t : PlaceTable) : Type 0 where
-  pub entered : AreEntered t.positions.items t.latest.items t.before.items t.numbers
   pub numbered : (n : ℕ) → Contains t.positions.items n → IsNumbered t.numbers n
   pub any : 0 < t.numbers
-  pub all : length t.before.items ≡ length t.positions.items
+  pub once : AllPairs (λ a b. a ≢ b) t.positions.items
+  pub found : HasFew t ⊎ HasSlots t

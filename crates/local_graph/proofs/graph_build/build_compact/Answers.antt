@@ -15,13 +15,10 @@ returns-then-points-gt32-clause-built g c =
     let long : c.len-points.result ≡ length c.args.region.now.points = omega (arith, c.len-points.ensures, c.shape.inside.points.ok, ap (λ s. length s.points) c.shape.view_is) in
     (omega (arith, c.if-points-gt32.true, long), long)
 
-pub returns-in_err-found-clause-built : goal.returns-in_err-found-clause-built
-returns-in_err-found-clause-built g c = let p = err_from_is_err_and c.from_residual.result c.from_residual.ensures.1 in rw (p.1, p.2) tt
-
 pub returns-in_err-edges-clause-built : goal.returns-in_err-edges-clause-built
 returns-in_err-edges-clause-built g c =
     let few : length c.args.region.now.points ≤ 32 = omega (arith, c.if-points-gt32.false, c.len-points.ensures, ap (λ s. length s.points) c.shape.view_is) in
-    let p = err_from_is_err_and c.from_residual-in_err-edges.result c.from_residual-in_err-edges.ensures.1 in
+    let p = err_from_is_err_and c.from_residual.result c.from_residual.ensures.1 in
     rw (p.1, p.2) (refused c.args.region.now c.args.limit c.explore.new.table.positions.items _ c.in_err-edges.ensures.graph few)
 
 pub returns-in_err-edges-clause-limited : goal.returns-in_err-edges-clause-limited

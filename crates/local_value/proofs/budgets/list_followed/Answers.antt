@@ -1,4 +1,4 @@
-use Rattle.std.proofs.Common.{◌≡◌, ◌<◌, refl, sym, length, ap, ◌∙◌, subst, [], slice_index_or, Contains, List, None, Some}
+use Rattle.std.proofs.Common.{◌≡◌, ◌<◌, sym, length, ap, ◌∙◌, subst, [], slice_index_or, Contains, List, None, Some}
 use Rattle.std.proofs.lemmas.List.Elements.{Contains-get_or}
 use Rattle.local_graph.specs.declared.graph.Edge.{Edge}
 use Rattle.local_graph.specs.inner.Graph.{edges_at, no_edge}

@@ -1,4 +1,4 @@
-use Rattle.std.proofs.Common.{◌<◌, ◌≤◌, refl, sym, subst}
+use Rattle.std.proofs.Common.{◌<◌, ◌≤◌, arith, refl, sym, subst}
 use Rattle.game_canon.proofs.ChangedIdLaws.{extends-on}
 use Rattle.local_graph.specs.declared.graph.Edge.{Edge}
 use Rattle.local_value.specs.inner.Options.{IsAdded}
@@ -24,8 +24,14 @@ listing-preserved c =
     let both = listing-add c.listing.options.items c.add_option.new.options.items c.in_ok-after.after _ (subst (λ n. c.listing.number < n) c.len-number-end.ensures c.listing-test.true) w.left w.right
     refl c.value_after.ensures.kept c.requires.noted
     (subst (λ (e : Edge). IsAfter c.listing.store c.value_after.new.store c.args.ids.now e c.in_ok-after.after) it c.in_ok-after.ensures.value)
-    (subst (λ (e : Edge). IsAdded e.colour c.in_ok-after.after c.listing.options.items c.add_option.new.options.items) it c.in_ok-option.ensures) in
-    record { left = both.0; right = both.1; sums = c.in_ok-after.ensures.sums }
+    (subst (λ (e : Edge). IsAdded e.colour c.in_ok-after.after c.listing.options.items c.add_option.new.options.items) it c.in_ok-option.ensures.added) in
+    record {
+      left = both.0;
+      right = both.1;
+      sums = c.in_ok-after.ensures.sums;
+      many = omega (arith, c.in_ok-option.ensures.one, w.many);
+      room = omega (arith, c.add_option.ensures.capacity, w.room);
+    }
 
 pub returns : goal.returns
 returns c = record {
