@@ -2,13 +2,13 @@
 use Rattle.std.proofs.Common.{ℕ, ◌+◌, ◌-◌, ◌≡◌, ◌<◌, ◌≤◌, ◌⊎◌, ◌==◌, inl, inr, refl, sym, ◌∙◌, ap, subst, arith, List, [], ◌∷◌, ◌++◌, length, get_or, take, Bool, true, false, not, Option, None, Some, Contains}
 use Rattle.std.proofs.lemmas.Bool.{true≢false, cases_lt, eq-eqb, eqb-true}
 use Rattle.std.proofs.lemmas.Option.{same_Some}
-use Rattle.std.proofs.lemmas.List.{take_all, take_more}
+use Rattle.std.proofs.lemmas.List.{get_or_append_left, get_or_past, get_or_push, length-append, take_all, take_more}
 use Rattle.std.proofs.lemmas.List.Elements.{Contains-append_left, Contains-push, Contains-push_cases}
 use Rattle.go_grid.specs.declared.grid.Colour.{Colour}
 use Rattle.local_graph.specs.declared.graph.Edge.{Edge}
-use Rattle.local_graph.specs.inner.Graph.{no_edge}
-use Rattle.local_graph.specs.ReturnGraph.{IsReturningCaptureAt}
-use Rattle.local_value.specs.inner.Layers.{IsFollowed, AreFollowed, IsBudgetLeft}
+use Rattle.local_graph.specs.inner.Graph.{edges_at, no_edge}
+use Rattle.local_graph.specs.ReturnGraph.{ReturnGraph, IsReturningCaptureAt}
+use Rattle.local_value.specs.inner.Layers.{AreMarked, IsFollowed, AreFollowed, IsBudgetLeft}
 
 -- Edges that are followed.
 
@@ -70,4 +70,19 @@ left-of true n e = eqb-true n 0 (sym e)
 left-of false n e = elim (cases_lt 0 n) [
   | inl lt ↦ (n - 1, omega (arith, lt))
   | inr le ↦ absurd (true≢false (sym (eq-eqb n 0 (omega (arith, le))) ∙ sym e))
+]
+
+-- one mark more
+pub mark-more : (owner : Colour) (g : ReturnGraph) (marks : List Bool) (x : Bool) (p : ℕ) → length marks ≡ p → AreMarked owner g marks
+    → (x ≡ false → (e : Edge) → Contains (edges_at g.edges p) e → ¬ IsReturningCaptureAt owner g.components p e) → AreMarked owner g (marks ++ x ∷ [])
+mark-more owner g marks x p long w here i is e among = elim (cases_lt i (length marks)) [
+  | inl l ↦ w i (sym (get_or_append_left marks (x ∷ []) true i l) ∙ is) e among
+  | inr m ↦ elim (cases_lt (length marks) i) [
+    | inl n ↦ absurd (true≢false (sym (get_or_past (marks ++ x ∷ []) i true (omega (arith, n, length-append marks (x ∷ [])))) ∙ is))
+    | inr n ↦
+        let same : length marks ≡ i = omega (arith, m, n) in
+        let at : p ≡ i = omega (arith, same, long) in
+        subst (λ k. ¬ IsReturningCaptureAt owner g.components k e) at
+        (here (sym (get_or_push marks x true i same) ∙ is) e (subst (λ k. Contains (edges_at g.edges k) e) (sym at) among))
+  ]
 ]

@@ -527,16 +527,17 @@ layer-call {r} {g} of {owner} {limit} {budget} {has_budget} {Ts} {ids} {m} pass 
       refused = layer-refused of pass lt followed';
     }
 
+-- edges lead to places
+pub edges-inside : {r : Region} {g : ReturnGraph} → IsReturnGraphOf r g → (i : ℕ) → i < length g.positions → (e : Edge) → Contains (edges_at g.edges i) e → e.next < length g.positions
+edges-inside {r} {g} of i inside e among =
+    let (cells, has) = graph_position r (plain_graph g) of.graph i inside in
+    let (next, move, edge) = graph_move r (plain_graph g) of.graph i cells e has among in
+    edge.inside
+
 -- a place of the order, and where its edges lead
 pub layer-place : {r : Region} {g : ReturnGraph} → IsReturnGraphOf r g → (owner : Colour) {order : List ℕ} {m : ℕ} → order ≡ order_for g owner → m < length order
     → (get_or order m 0 < length g.positions) × ((e : Edge) → Contains (edges_at g.edges (get_or order m 0)) e → e.next < length g.positions)
-layer-place {r} {g} of owner {order} {m} o short = rw o (
-  inside,
-  λ e among.
-      let (cells, has) = graph_position r (plain_graph g) of.graph (get_or (order_for g owner) m 0) inside in
-      let (next, move, edge) = graph_move r (plain_graph g) of.graph (get_or (order_for g owner) m 0) cells e has among in
-      edge.inside,
-)
+layer-place {r} {g} of owner {order} {m} o short = rw o (inside, edges-inside of (get_or (order_for g owner) m 0) inside)
   where
     inside : get_or (order_for g owner) m 0 < length g.positions
     inside = let lt = (of.orders owner).inside m (subst (λ z. m < length z) o short) in omega (arith, lt, of.graph.beside)

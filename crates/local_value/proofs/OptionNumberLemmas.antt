@@ -1,5 +1,5 @@
 -- The options of a position as one list of numbers.
-use Rattle.std.proofs.Common.{◌≡◌, ℕ, ◌+◌, ◌*◌, ◌/◌, ◌%◌, ◌<◌, ◌↔◌, inl, inr, suc, zero, arith, sym, ap, ◌∙◌, ◌⊎◌, List, [], ◌∷◌, ◌++◌, length, get_or, take, Option, None, Some, cond, nat_eq}
+use Rattle.std.proofs.Common.{◌≡◌, ℕ, ◌+◌, ◌*◌, ◌/◌, ◌%◌, ◌<◌, inl, inr, suc, zero, arith, sym, ap, ◌∙◌, ◌⊎◌, List, [], ◌∷◌, ◌++◌, length, get_or, take, Option, None, Some, cond, nat_eq}
 use Rattle.std.specs.Prelude.{Contains}
 use Rattle.std.specs.List.{cons_option}
 use Rattle.std.proofs.lemmas.Bool.{eq-eqb, eqb-true, cases_Bool}
@@ -61,24 +61,21 @@ behind None rest i h = h
 behind (Some x) rest i (k, lt, e) = (suc k, omega (arith, lt), e)
 
 -- an id is among the player's options where its number is in the list
-numbered : (c : Colour) (os : List ℕ) (i : ℕ) → Contains (options_of c os) i → Contains os (2 * i + side c)
+pub numbered : (c : Colour) (os : List ℕ) (i : ℕ) → Contains (options_of c os) i → Contains os (2 * i + side c)
 numbered c [] i h = absurd (omega (arith, h.1))
 numbered c (o ∷ os) i h = elim (either (option_for c o) (options_of c os) i h) [
   | inl e ↦ (0, omega arith, number c o i e)
   | inr r ↦ (let t = numbered c os i r in (suc t.0, omega (arith, t.1), t.2))
 ]
 
-listed : (c : Colour) (os : List ℕ) (i : ℕ) → Contains os (2 * i + side c) → Contains (options_of c os) i
+pub listed : (c : Colour) (os : List ℕ) (i : ℕ) → Contains os (2 * i + side c) → Contains (options_of c os) i
 listed c [] i h = absurd (omega (arith, h.1))
 listed c (o ∷ os) i (zero, lt, e) = in_front (option_for c o) (options_of c os) i (its c i o e)
 listed c (o ∷ os) i (suc k, lt, e) = behind (option_for c o) (options_of c os) i (listed c os i (k, omega (arith, lt), e))
 
--- lists with the same numbers have the same options
-pub same_ids : (c : Colour) (os others : List ℕ) → ((n : ℕ) → Contains others n ↔ Contains os n) → (i : ℕ) → Contains (options_of c others) i ↔ Contains (options_of c os) i
-same_ids c os others same i = (
-  λ h. listed c os i ((same (2 * i + side c)).0 (numbered c others i h)),
-  λ h. listed c others i ((same (2 * i + side c)).1 (numbered c os i h)),
-)
+-- where the numbers of a list are among another's, so are its options
+pub among_ids : (c : Colour) (os others : List ℕ) → ((n : ℕ) → Contains others n → Contains os n) → (i : ℕ) → Contains (options_of c others) i → Contains (options_of c os) i
+among_ids c os others among i h = listed c os i (among (2 * i + side c) (numbered c others i h))
 
 -- the ids of one option more
 more : (c : Colour) (os : List ℕ) (k : ℕ) → k < length os → options_of c (take (k + 1) os) ≡ options_of c (take k os) ++ cons_option (option_for c (get_or os k 0)) []

@@ -1,11 +1,12 @@
 -- What is remembered, the ids after the edges of a place as the store grows, and the form of those ids.
-use Rattle.std.proofs.Common.{ℕ, ◌+◌, ◌^◌, ◌≡◌, ◌<◌, ◌↔◌, arith, inl, inr, sym, ap, ap₂, get_or, subst, ◌∙◌, List, [], length, Result, ℤ, ◌+ℤ◌, ◌≤◌, to_z, of_z, w32, ◌*◌, refl, pos, neg_ℤ, ◌*ℤ◌, ◌∷◌, ◌++◌, take, Contains, unsigned_abs, IfOk, IfErr}
+use Rattle.std.proofs.Common.{ℕ, ◌+◌, ◌/◌, ◌%◌, ◌^◌, ◌≡◌, ◌<◌, ◌↔◌, arith, inl, inr, sym, ap, ap₂, get_or, subst, ◌∙◌, List, [], length, Result, ℤ, ◌+ℤ◌, ◌≤◌, to_z, of_z, w32, ◌*◌, refl, pos, neg_ℤ, ◌*ℤ◌, ◌∷◌, ◌++◌, take, Contains, unsigned_abs, IfOk, IfErr}
 use Rattle.game_store.proofs.EntryLaws.{pick-same, has-pick, pick-has, push_one}
+use Rattle.std.proofs.lemmas.Bool.{cases_lt}
 use Rattle.std.proofs.lemmas.Int.{to_z-of_z, fits_signed_from_abs, ints}
 use Rattle.game_canon.specs.FormComparisons.{answer_of}
 use Rattle.game_canon.proofs.CanonicalFormLaws.{right-grown}
-use Rattle.local_value.proofs.OptionNumberLemmas.{same_ids}
-use Rattle.short_games.specs.Tree.{Tree, node, tree_at, none, Has}
+use Rattle.local_value.proofs.OptionNumberLemmas.{among_ids, numbered, listed as listed_in}
+use Rattle.short_games.specs.Tree.{Tree, node, left, right, tree_at, none, Has}
 use Rattle.short_games.specs.Sum.{◌+ᵍ◌}
 use Rattle.short_games.specs.TextOrder.{IsCanonicalFor}
 use Rattle.game_store.specs.Meaning.{pick, listed, AreIds, Extends, AreCanonical}
@@ -13,8 +14,8 @@ use Rattle.short_games.specs.Number.{number_tree, IsNumber}
 use Rattle.short_games.specs.Parts.{HasMoreParts, IsNumberOf, IsOption}
 use Rattle.game_canon.specs.Outcomes.{IsCanonicalId, AreWithin, AreOptionsWithin, IsCause}
 use Rattle.local_value.specs.declared.memo.Forms.{Forms}
-use Rattle.local_value.specs.Remembered.{options_of, stones_units, IsStonesSum, AreStonesSumsRight, IsFormOfOptions, IsFormOf, AreKnownRight}
-use Rattle.local_value.specs.inner.Options.{IsAdded}
+use Rattle.local_value.specs.Remembered.{side as side_of, options_of, stones_units, IsStonesSum, AreStonesSumsRight, IsFormOfOptions, IsFormOf, AreKnownRight}
+use Rattle.local_value.specs.inner.Options.{IsAdded, IsNoBetter, AreEnough}
 use Rattle.local_value.specs.inner.Tables.{Learns}
 use Rattle.local_value.specs.inner.Memo.{AreFormsRight}
 use Rattle.go_grid.specs.declared.grid.Colour.{Colour}
@@ -31,8 +32,8 @@ use Rattle.local_value.specs.inner.Valuing.{noted, IsWithinAfter, IsAfter, most_
 use Rattle.std.proofs.lemmas.List.{get_or_default, length-append, get_or_append_left, get_or_push, take_all, take_more}
 use Rattle.std.proofs.lemmas.List.Elements.{Contains-append_left, Contains-get_or, Contains-push, Contains-push_cases}
 use Rattle.local_graph.specs.inner.Graph.{no_edge}
-use Rattle.short_games.specs.Order.{◌≡ᵍ◌}
-use Rattle.short_games.proofs.OrderLaws.{le-trans, same-path, same-sym, same-trans}
+use Rattle.short_games.specs.Order.{◌≤ᵍ◌, ◌≡ᵍ◌}
+use Rattle.short_games.proofs.OrderLaws.{le-in, le-out, le-refl, le-trans, same-path, same-sym, same-trans}
 use Rattle.game_canon.specs.declared.errors.FormError.{FormError}
 use Rattle.std.proofs.lemmas.Result.{IfErr-weaker, IfOk-weaker}
 use Rattle.local_value.proofs.TreeLaws.{same_options as alike_options}
@@ -285,7 +286,7 @@ cause-as G H limit Parts s w = (λ n. w.0 (number-as H G (s.1, s.0) n), λ C k. 
 cause-as G H limit Bounds s w = (number-as G H s w.0, λ x b y z. w.1 x b (le-trans G H _ s.0 y) (le-trans _ H G z s.1))
 cause-as G H limit (Memory cause) s w = tt
 
--- Lists of options with the same members.
+-- Lists of options of which some are enough.
 
 -- the ids of the one are ids of the other
 AreAmong : List ℕ → List ℕ → Type 0
@@ -304,37 +305,65 @@ pick-among Ts is js among X h =
     let (k, inside, at) = among (get_or is j 0) (Contains-get_or is j 0 lt) in
     subst (Has (pick Ts js)) (ap (tree_at Ts) (get_or_default js k 0 (get_or is j 0) inside ∙ at) ∙ sym x) (pick-has Ts js k inside)
 
-module _ (os others : List ℕ) (same : (n : ℕ) → Contains others n ↔ Contains os n) where
+-- whether Y is no worse for the player than X
+abbrev Follows : Colour → Tree → Tree → Type 0
+Follows Black X Y = X ≤ᵍ Y
+Follows White X Y = Y ≤ᵍ X
+
+-- a game is at most another where each of its Left options is at most one of the other's, and each Right option of the other at
+-- least one of its own
+covered-below : (G H : Tree) → ((X : Tree) → Has (left G) X → (Y : Tree) × Has (left H) Y × (X ≤ᵍ Y)) → ((X : Tree) → Has (right H) X → (Y : Tree) × Has (right G) Y × (Y ≤ᵍ X)) → G ≤ᵍ H
+covered-below G H l r = le-in G H record {
+  from_left = λ X h le. (let y = l X h in (le-out H H (le-refl H)).from_left y.0 y.1 (le-trans H X y.0 le y.2));
+  from_right = λ X h le. (let y = r X h in (le-out G G (le-refl G)).from_right y.0 y.1 (le-trans y.0 X G y.2 le));
+}
+
+module _ (os others : List ℕ) (Ts : List Tree) (enough : AreEnough Ts os others) where
   there : (c : Colour) → AreAmong (options_of c others) (options_of c os)
   unfolding AreAmong
-  there c i = (same_ids c os others same i).0
+  there c i = among_ids c os others enough.among i
 
-  back : (c : Colour) → AreAmong (options_of c os) (options_of c others)
-  unfolding AreAmong
-  back c i = (same_ids c os others same i).1
+  pub ids-enough : (c : Colour) → AreIds Ts (options_of c os) → AreIds Ts (options_of c others)
+  ids-enough c = ids-among Ts (options_of c os) (options_of c others) (there c)
 
-  pub ids-same : (Ts : List Tree) (c : Colour) → AreIds Ts (options_of c os) → AreIds Ts (options_of c others)
-  ids-same Ts c = ids-among Ts (options_of c os) (options_of c others) (there c)
+  one : (c : Colour) (X Y : Tree) (i n o : ℕ) → n ≡ 2 * i + side_of c → X ≡ tree_at Ts i → Y ≡ tree_at Ts (o / 2) → IsNoBetter c Ts n o → Follows c X Y
+  one Black X Y i n o e x y f = rw (x, y) (subst (λ k. tree_at Ts k ≤ᵍ tree_at Ts (o / 2)) (omega (arith, e)) f)
+  one White X Y i n o e x y f = rw (x, y) (subst (λ k. tree_at Ts (o / 2) ≤ᵍ tree_at Ts k) (omega (arith, e)) f)
+
+  parity : (c : Colour) (i : ℕ) → (2 * i + side_of c) % 2 ≡ side_of c
+  parity Black i = omega arith
+  parity White i = omega arith
+
+  looked_up : (is : List ℕ) (k i : ℕ) → k < length is → get_or is k i ≡ i → tree_at Ts (get_or is k 0) ≡ tree_at Ts i
+  looked_up is k i inside at = ap (tree_at Ts) (get_or_default is k 0 i inside ∙ at)
+
+  covered : (c : Colour) (X : Tree) → Has (pick Ts (options_of c os)) X → (Y : Tree) × Has (pick Ts (options_of c others)) Y × Follows c X Y
+  covered c X h =
+      let (j, lt, x) = has-pick Ts (options_of c os) X h in
+      let i = get_or (options_of c os) j 0 in
+      let (o, its, better) = enough.covered c (2 * i + side_of c) (numbered c os i (Contains-get_or (options_of c os) j 0 lt), parity c i) in
+      let back : o ≡ 2 * (o / 2) + side_of c = omega (arith, its.1) in
+      let (k, inside, at) = listed_in c others (o / 2) (subst (Contains others) back its.0) in (
+        tree_at Ts (get_or (options_of c others) k 0),
+        pick-has Ts (options_of c others) k inside,
+        one c X (tree_at Ts (get_or (options_of c others) k 0)) i (2 * i + side_of c) o refl x (looked_up (options_of c others) k (o / 2) inside at) better,
+      )
 
   -- the games with these options are equal
-  pub listed-same : (Ts : List Tree) → listed Ts (options_of Black others) (options_of White others) ≡ᵍ listed Ts (options_of Black os) (options_of White os)
-  listed-same Ts = alike_options (listed Ts (options_of Black others) (options_of White others)) (listed Ts (options_of Black os) (options_of White os))
-      (λ c X h. (X, on c X h, same-path X X refl)) (λ c Y h. (Y, from c Y h, same-path Y Y refl))
-    where
-      on : (c : Colour) (X : Tree) → Has (options c (listed Ts (options_of Black others) (options_of White others))) X → Has (options c (listed Ts (options_of Black os) (options_of White os))) X
-      on Black X h = pick-among Ts (options_of Black others) (options_of Black os) (there Black) X h
-      on White X h = pick-among Ts (options_of White others) (options_of White os) (there White) X h
-
-      from : (c : Colour) (X : Tree) → Has (options c (listed Ts (options_of Black os) (options_of White os))) X → Has (options c (listed Ts (options_of Black others) (options_of White others))) X
-      from Black X h = pick-among Ts (options_of Black os) (options_of Black others) (back Black) X h
-      from White X h = pick-among Ts (options_of White os) (options_of White others) (back White) X h
+  pub listed-enough : listed Ts (options_of Black others) (options_of White others) ≡ᵍ listed Ts (options_of Black os) (options_of White os)
+  listed-enough = (
+    covered-below (listed Ts (options_of Black others) (options_of White others)) (listed Ts (options_of Black os) (options_of White os))
+        (λ X h. (X, pick-among Ts (options_of Black others) (options_of Black os) (there Black) X h, le-refl X)) (covered White),
+    covered-below (listed Ts (options_of Black os) (options_of White os)) (listed Ts (options_of Black others) (options_of White others))
+        (covered Black) (λ X h. (X, pick-among Ts (options_of White others) (options_of White os) (there White) X h, le-refl X)),
+  )
 
   -- a form of the one list is that of the other
-  pub form-same : (Ts : List Tree) (limit id : ℕ) → AreIds Ts (options_of Black os) → AreIds Ts (options_of White os) → IsFormOf Ts limit others id → IsFormOf Ts limit os id
-  form-same Ts limit id left right f = record {
-    left_ids = left;
-    right_ids = right;
-    value = (f.value.0, canonical-as _ _ (tree_at Ts id) (listed-same Ts) f.value.1);
+  pub form-enough : (limit id : ℕ) → AreIds Ts (options_of Black os) → AreIds Ts (options_of White os) → IsFormOf Ts limit others id → IsFormOf Ts limit os id
+  form-enough limit id l r f = record {
+    left_ids = l;
+    right_ids = r;
+    value = (f.value.0, canonical-as _ _ (tree_at Ts id) listed-enough f.value.1);
     few = f.few;
     sizes = λ b w. f.sizes b (λ L o. w L (on L o));
   }
@@ -342,6 +371,27 @@ module _ (os others : List ℕ) (same : (n : ℕ) → Contains others n ↔ Cont
       on : (L : Tree) → IsOption (listed Ts (options_of Black others) (options_of White others)) L → IsOption (listed Ts (options_of Black os) (options_of White os)) L
       on L (inl h) = inl (pick-among Ts (options_of Black others) (options_of Black os) (there Black) L h)
       on L (inr h) = inr (pick-among Ts (options_of White others) (options_of White os) (there White) L h)
+
+-- the numbers of a list whose options are ids are those of ids
+pub numbers-known : (Ts : List Tree) (os : List ℕ) → AreIds Ts (options_of Black os) → AreIds Ts (options_of White os) → (n : ℕ) → Contains os n → n / 2 < length Ts
+numbers-known Ts os l r n h = elim (cases_lt (n % 2) 1) [ inl z ↦ at Black l (omega (arith, z)) | inr o ↦ at White r (omega (arith, o)) ]
+  where
+    at : (c : Colour) → AreIds Ts (options_of c os) → n ≡ 2 * (n / 2) + side_of c → n / 2 < length Ts
+    at c are e =
+        let (k, inside, is) = listed_in c os (n / 2) (subst (Contains os) e h) in
+        subst (λ i. i < length Ts) (get_or_default (options_of c os) k 0 (n / 2) inside ∙ is) (are k inside)
+
+-- options are enough in a store that has grown
+pub enough-grown : {Ts Us : List Tree} → Extends Ts Us → (os others : List ℕ) → ((n : ℕ) → Contains os n → n / 2 < length Ts) → AreEnough Ts os others → AreEnough Us os others
+enough-grown {Ts} {Us} x os others known e = record {
+  among = e.among;
+  covered = λ c n h. (let (o, its, better) = e.covered c n h in
+      (o, its, on c n o (x.same (n / 2) (known n h.0)) (x.same (o / 2) (known o (e.among o its.0))) better));
+}
+  where
+    on : (c : Colour) (n o : ℕ) → tree_at Us (n / 2) ≡ tree_at Ts (n / 2) → tree_at Us (o / 2) ≡ tree_at Ts (o / 2) → IsNoBetter c Ts n o → IsNoBetter c Us n o
+    on Black n o p q f = rw (p, q) f
+    on White n o p q f = rw (p, q) f
 
 -- The form of the ids after the edges of a place, and what it shares with each tree of the same edges.
 

@@ -8,7 +8,7 @@ ghost use Rattle.game_store.specs.Meaning.{Extends};
 ghost use Rattle.game_canon.specs.Outcomes.{IsCause};
 ghost use Rattle.local_value.specs.declared.budgets.BudgetError.TheVariants.{Form};
 ghost use Rattle.local_value.specs.BudgetValues.{IsReturnGraphOf, AreWithinLimits, IsPastLimits};
-ghost use Rattle.local_value.specs.inner.Layers.{IsFollowed, AreFollowed, IsLayer, AreLayers, AreValued, IsBudgetLeft, IsLayerBack, IsRoom, IsUnchanged, IsKept, IsMade};
+ghost use Rattle.local_value.specs.inner.Layers.{AreMarked, IsFollowed, AreFollowed, IsLayer, AreLayers, AreValued, IsBudgetLeft, IsLayerBack, IsRoom, IsUnchanged, IsKept, IsMade};
 ghost use Rattle.local_value.specs.Remembered.{IsRightAfter};
 ghost use Rattle.local_value.specs.inner.Memo.{IsMemoRight, remembered};
 ghost use Rattle.local_value.specs.inner.Valuing.{IsNoted, AreWithinAfter, HasEdges, most_units};
@@ -111,15 +111,42 @@ fn list_followed(
     Ok(())
 }
 
+/// By place whether a move of the position is a capture by the owner that returns.
+fn returning_places(
+    alloc: Global,
+    graph: &ReturnGraph,
+    owner: Colour,
+) -> Result<Vec<bool>, AllocError>
+    requires { (r : Region) × IsReturnGraphOf r graph.now }
+    ensures { IfOk result (λ marks. AreMarked owner graph.now marks.items) }
+{
+    let count = graph.graph().len();
+    let mut marks = Vec::with_capacity(alloc, count)?;
+    'marking: for place in 0..count {
+        marks.reserve(1)?;
+        marks.push_reserved(has_returning_capture(graph, owner, place));
+    }
+    Ok(marks)
+}
+
+/// Whether a place has a mark that says no.
+fn is_unmarked(marks: &[bool], place: usize) -> bool
+    ensures { result ≡ true → slice_index_or marks.now place true ≡ false }
+{
+    marks.get(place) == Some(&false)
+}
+
 /// The edges of a place as they are followed in a layer: the graph's own, where none of them is a returning capture by the owner,
 /// and else in the room that is lent.
 fn followed_edges<'a>(
     graph: &'a ReturnGraph,
     owner: Colour,
+    returning: &[bool],
     place: usize,
     has_budget: bool,
     room: &'a mut EdgeList,
 ) -> Result<Edges<'a>, AllocError>
+    requires returning { AreMarked owner graph.now returning.now }
     requires few { length graph.now.positions ≤ MOST_POSITIONS }
     requires place { place < length graph.now.positions }
     requires next { (e : Edge) → Contains (slice_index_or graph.now.edges place []) e
@@ -128,7 +155,7 @@ fn followed_edges<'a>(
         (length graph.now.positions) has_budget (slice_index_or graph.now.edges place [])
         edges) }
 {
-    if !has_returning_capture(graph, owner, place) {
+    if is_unmarked(returning, place) {
         return Ok(graph.graph().edges(place));
     }
     list_followed(graph, owner, place, has_budget, room)?;
@@ -237,6 +264,7 @@ fn layer(
     alloc: Global,
     graph: &ReturnGraph,
     owner: Colour,
+    returning: &[bool],
     store: &mut Store,
     memo: &mut Memo,
     layers: &[Layer],
@@ -244,6 +272,7 @@ fn layer(
 ) -> Result<Layer, FormError>
     requires graph { (r : Region) × IsReturnGraphOf r graph.now
         × AreLayers r graph.now owner parts_limit store.old layers.now }
+    requires returning { AreMarked owner graph.now returning.now }
     requires few { length graph.now.positions ≤ MOST_POSITIONS }
     requires low { length layers.now ≤ 256 }
     requires memo { IsMemoRight store.old parts_limit memo.old }
@@ -265,7 +294,7 @@ fn layer(
     let mut followed = EdgeList::new(alloc);
     'valuing: for place in graph.order(owner) {
         let place = *place as usize;
-        let edges = followed_edges(graph, owner, place, has_budget, &mut followed)?;
+        let edges = followed_edges(graph, owner, returning, place, has_budget, &mut followed)?;
         let id = id_of(alloc, store, memo, &ids, count, place, &edges, parts_limit)?;
         let short = shortened(id)?;
         ids[place] = short;
@@ -281,6 +310,7 @@ fn add_layer(
     alloc: Global,
     graph: &ReturnGraph,
     owner: Colour,
+    returning: &[bool],
     store: &mut Store,
     memo: &mut Memo,
     layers: &mut Vec<Layer>,
@@ -288,6 +318,7 @@ fn add_layer(
 ) -> Result<(), FormError>
     requires graph { (r : Region) × IsReturnGraphOf r graph.now
         × AreLayers r graph.now owner parts_limit store.old layers.old.items }
+    requires returning { AreMarked owner graph.now returning.now }
     requires few { length graph.now.positions ≤ MOST_POSITIONS }
     requires low { length layers.old.items ≤ 256 }
     requires memo { IsMemoRight store.old parts_limit memo.old }
@@ -304,7 +335,16 @@ fn add_layer(
     ensures memo { OnOk result (IsMemoRight store.new parts_limit memo.new) }
     ensures kept { Extends store.old store.new }
 {
-    let layer = layer(alloc, graph, owner, store, memo, layers, parts_limit)?;
+    let layer = layer(
+        alloc,
+        graph,
+        owner,
+        returning,
+        store,
+        memo,
+        layers,
+        parts_limit,
+    )?;
     append(layers, layer)?;
     Ok(())
 }
@@ -346,12 +386,34 @@ pub(crate) fn add_layers(
     ensures memo { IsRightAfter store.new parts_limit result (remembered memo.new) }
     ensures kept { Extends store.old store.new }
 {
-    add_layer(alloc, graph, owner, store, memo, layers, parts_limit)?;
+    let returning = match returning_places(alloc, graph, owner) {
+        Ok(returning) => returning,
+        Err(cause) => return Err(BudgetError::Form(FormError::Memory(cause))),
+    };
+    add_layer(
+        alloc,
+        graph,
+        owner,
+        &returning,
+        store,
+        memo,
+        layers,
+        parts_limit,
+    )?;
     if !graph.has_cycle() {
         return Ok(());
     }
     'layers: for budget in 0..u16::from(most) + 1 {
-        add_layer(alloc, graph, owner, store, memo, layers, parts_limit)?;
+        add_layer(
+            alloc,
+            graph,
+            owner,
+            &returning,
+            store,
+            memo,
+            layers,
+            parts_limit,
+        )?;
         let _count = store.len();
         if is_last_repeated(layers) {
             layers.truncate(usize::from(budget) + 1);

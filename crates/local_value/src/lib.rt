@@ -11,6 +11,7 @@ mod options;
 mod short_ids;
 mod steady_values;
 mod sum_table;
+mod undominated;
 mod value_memo;
 mod values;
 

@@ -13,8 +13,9 @@ ghost use Rattle.local_value.specs.Remembered.{options_of, stones_units, IsStone
 ghost use Rattle.local_value.specs.inner.Memo.{AreFormsRight, IsMemoRight};
 
 use crate::form_table::FormTable;
-use crate::options::{hash_of, ids_for, in_order};
+use crate::options::{hash_of, ids_for};
 use crate::sum_table::SumTable;
+use crate::undominated::undominated;
 use dyadic_num::Dyadic;
 use game_canon::{FormComparisons, FormError, add_number, canonical_with};
 use game_store::{GameId, Store};
@@ -147,8 +148,8 @@ fn known_form(
     Ok(id)
 }
 
-/// The canonical form of the game with these options, where it isn't remembered of them as they are listed: that of the same
-/// options in ascending order, so that fewer different lists come up.
+/// The canonical form of the game with these options, where it isn't remembered of them as they are listed: that of the
+/// undominated ones in ascending order, so that fewer different lists come up.
 #[inline(never)]
 fn form_in_order(
     alloc: Global,
@@ -167,8 +168,8 @@ fn form_in_order(
     ensures forms { OnOk result (AreFormsRight store.new parts_limit forms.new) }
     ensures kept { Extends store.old store.new }
 {
-    let sorted = in_order(alloc, options)?;
-    match known_form(alloc, store, forms, &sorted, parts_limit) {
+    let kept = undominated(alloc, store, options)?;
+    match known_form(alloc, store, forms, &kept, parts_limit) {
         Ok(id) => {
             forms.table.remember(alloc, options, hash, id);
             Ok(id)

@@ -16,6 +16,11 @@ use Rattle.go_grid.specs.declared.grid.Colour.{Colour}
 use Rattle.local_graph.specs.declared.graph.Edge.{Edge}
 use Rattle.local_graph.specs.ReturnGraph.{ReturnGraph, IsReturningCaptureAt}
 
+-- by place what is marked where a move of the position may be a capture by the owner that returns
+abbrev pub AreMarked : Colour → ReturnGraph → List Bool → Type 0
+AreMarked owner g marks = (i : ℕ) → slice_index_or marks i true ≡ false → (e : Edge) → Contains (slice_index_or g.edges i []) e
+    → ¬ IsReturningCaptureAt owner g.components i e
+
 -- the edge to the layer before, whose ids stand behind so many
 abbrev pub led_back : ℕ → Edge → Edge
 led_back count e = record { next = e.next + count; colour = e.colour; place = e.place; taken = e.taken }

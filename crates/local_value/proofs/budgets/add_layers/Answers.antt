@@ -18,6 +18,9 @@ add_layer-requires-clause-graph c =
 pub add_layer-requires-clause-memo : goal.add_layer-requires-clause-memo
 add_layer-requires-clause-memo c = c.requires.memo
 
+pub returns-in-Err-clause-valued : goal.returns-in-Err-clause-valued
+returns-in-Err-clause-valued c = λ r of. (0, omega arith, λ j lt. absurd (omega (arith, lt)), tt)
+
 pub returns-in_err-add_layer-clause-valued : goal.returns-in_err-add_layer-clause-valued
 returns-in_err-add_layer-clause-valued c = λ r of.
     refused-form (AreValued r c.args.graph.now c.args.owner c.args.most c.args.parts_limit c.add_layer.new.store c.add_layer.new.layers.items) _
@@ -99,7 +102,7 @@ pub returns-then-is_last_repeated-clause-valued : goal.returns-then-is_last_repe
 returns-then-is_last_repeated-clause-valued c = λ r of.
     let all = c.in_ok-add_layer-2.ensures.layers r of (c.layers.invariant.layers r of) in
     let many : length c.add_layer-in-layers.new.layers.items ≡ c.layers.budget + 1 + 1 = c.in_ok-add_layer-2.ensures.many ∙ ap (λ n. n + 1) c.layers.invariant.many in
-    let same = subst LastIsRepeated c.deref.ensures.value (c.is_last_repeated.ensures.0 c.if-is_last_repeated.true) in
+    let same = subst LastIsRepeated c.deref-in-layers-2.ensures.value (c.is_last_repeated.ensures.0 c.if-is_last_repeated.true) in
     let (first, few) = layers-first (c.layers.budget + 1) (omega (arith, many))
     (c.truncate.ensures.items ∙ ap (λ n. take (n + 1) c.add_layer-in-layers.new.layers.items) c.from.ensures) all in (
       c.layers.budget,
@@ -117,7 +120,7 @@ layers-preserved c = record {
       (let all = c.in_ok-add_layer-2.ensures.layers r of (c.layers.invariant.layers r of) in
       let many : length c.add_layer-in-layers.new.layers.items ≡ c.layers.budget + 1 + 1 = c.in_ok-add_layer-2.ensures.many ∙ ap (λ n. n + 1) c.layers.invariant.many in
       needs-more r c.args.owner (c.layers.invariant.needed r of) (λ steady.
-      true≢false (sym (c.is_last_repeated.ensures.1 (subst LastIsRepeated (sym c.deref.ensures.value)
+      true≢false (sym (c.is_last_repeated.ensures.1 (subst LastIsRepeated (sym c.deref-in-layers-2.ensures.value)
       ((last-steady of c.layers.budget all many c.len-count.ensures.distinct).1 steady))) ∙ c.if-is_last_repeated.false)));
   limits = λ r of. limits-more of (c.layers.invariant.limits r of)
       (subst (AreWithinLimits r c.args.graph.now c.args.owner c.args.parts_limit) c.layers.invariant.many

@@ -4,10 +4,10 @@ use Rattle.local_value.specs.inner.Layers.{AreFollowed}
 use Rattle.local_value.proofs.LayerLaws.{all-followed}
 use Rattle.local_value.proofs.budgets.followed_edges.Goals as goal
 
-pub returns-then-not-has_returning_capture : goal.returns-then-not-has_returning_capture
-returns-then-not-has_returning_capture c =
+pub returns-then-is_unmarked : goal.returns-then-is_unmarked
+returns-then-is_unmarked c =
     let same : c.edges.result ≡ slice_index_or c.args.graph.now.edges c.args.place [] =
     c.edges.ensures ∙ ap (λ (z : List (List Edge)). slice_index_or z c.args.place []) c.graph.ensures.edges in
     subst (AreFollowed c.args.owner c.args.graph.now.components c.args.place (length c.args.graph.now.positions) c.args.has_budget
     (slice_index_or c.args.graph.now.edges c.args.place [])) (sym same)
-    (all-followed (slice_index_or c.args.graph.now.edges c.args.place []) (c.has_returning_capture.ensures c.if-not-has_returning_capture.true))
+    (all-followed (slice_index_or c.args.graph.now.edges c.args.place []) (c.requires.returning c.args.place (c.is_unmarked.ensures c.if-is_unmarked.true)))
