@@ -2,6 +2,7 @@
 #![tactic(auto)]
 
 mod calc;
+mod console;
 mod cycles;
 mod ending;
 mod engine;

@@ -4,13 +4,15 @@ ghost use Rattle.std.specs.Prelude.{◌≡◌, ◌<◌, IfOk, OnErr};
 ghost use Rattle.endgame_run.specs.Codes.{code_of};
 ghost use Rattle.endgame_run.specs.declared.status.Status.TheVariants.{Memory};
 
+use crate::console::{InputReader, Output, OutputWriter};
 use crate::file_limit::FileLimited;
 use crate::{Status, run};
-use desk_io::{FileShelf, StdSink, StdSource};
+use desk_io::{FileShelf, Shelf, StdSink, StdSource};
 use local_play::Steps;
 use std::alloc::{AllocError, Global};
 use std::env::Env;
 use std::fs::Files;
+use std::io::{BufReader, Read, Write};
 use std::sync::ledger::{Blank, Ledger};
 use std::{env, io};
 
@@ -24,8 +26,35 @@ fn words<R: Env + AllocGlobal>(rt: &R) -> Result<Vec<String>, AllocError> {
     }
 }
 
+/// The value, or a want of memory, of which alone a buffer's error tells.
+fn made<T>(buffer: io::Result<T>) -> Result<T, AllocError> {
+    match buffer {
+        Ok(buffer) => Ok(buffer),
+        Err(_) => Err(AllocError),
+    }
+}
+
+/// Does what words say, between an input and an output. A text that couldn't be written in the end is a failed write.
+fn run_between<L: Ledger, H: Shelf, I: Read + Drop, W: Write + Drop>(
+    alloc: Global,
+    words: &[&str],
+    shelf: &mut H,
+    input: I,
+    output: &Output<W>,
+    steps: &mut Steps<L>,
+) -> Result<Status, AllocError> {
+    let reader = made(BufReader::new(alloc, InputReader::new(input, output)))?;
+    let mut lines = StdSource::new(reader);
+    let mut out = StdSink::new(OutputWriter::new(output));
+    let status = run(alloc, words, shelf, &mut lines, &mut out, steps);
+    if output.is_written() {
+        return Ok(status);
+    }
+    Ok(Status::CannotWrite)
+}
+
 /// Does what the words of the command line say, over the files of the system, standard input and standard output. A new
-/// ledger counts its steps.
+/// ledger counts its steps. A text that couldn't be written in the end is a failed write.
 pub fn start<L: Ledger, R: Env + Files + Input + Print + AllocGlobal>(
     rt: &R,
     blank: Blank,
@@ -41,10 +70,9 @@ pub fn start<L: Ledger, R: Env + Files + Input + Print + AllocGlobal>(
         texts.push(word.as_str())?;
     }
     let mut shelf = FileShelf::new(rt);
-    let mut lines = StdSource::new(rt.reader());
-    let mut out = StdSink::new(FileLimited::new(rt, io::writer(rt)));
+    let output = made(Output::new(alloc, FileLimited::new(rt, io::writer(rt))))?;
     let mut steps = Steps::<L>::new(blank);
-    Ok(run(alloc, &texts, &mut shelf, &mut lines, &mut out, &mut steps))
+    run_between(alloc, &texts, &mut shelf, rt.reader(), &output, &mut steps)
 }
 
 /// The number with which a program ends whose run came to this: that of its status, or that of a want of memory.
