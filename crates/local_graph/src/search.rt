@@ -12,6 +12,7 @@ ghost use Rattle.local_graph.specs.declared.search.Visit.TheVariants.{OnPath, Pl
 use crate::cycle::{CycleList, CycleMove};
 use crate::edge_lists::EdgeLists;
 use crate::edges::Edges;
+use crate::graph::Edge;
 use crate::narrow::narrow;
 use crate::soonest_cycles::soonest_cycle;
 use std::alloc::{AllocError, Global};
@@ -119,20 +120,21 @@ impl Search {
         Ok(search)
     }
 
-    /// The path's last position with the next of its moves to follow: the last that doesn't lead to a placed position, or
-    /// its first.
-    fn next_frame(&self, edges: &EdgeLists, last: Frame) -> Frame
+    /// The path's last position with the next of its moves to follow, and that move: the last that doesn't lead to a placed
+    /// position, or its first.
+    fn next_frame(&self, edges: &EdgeLists, last: Frame) -> (Frame, Edge)
         requires rooted { IsRooted edges.now }
         requires under_way { Searching edges.now self.now.path.items
             self.now.visits.items self.now.order.items }
         requires ends { EndsIn self.now.path.items last }
         requires more { 0 < last.left }
-        ensures { GoesOn edges.now self.now.visits.items last result }
+        ensures frame { GoesOn edges.now self.now.visits.items last result.0 }
+        ensures edge { result.1 ≡ edge_at edges.now result.0.node result.0.left }
     {
-        Frame {
-            node: last.node,
-            left: last_unplaced(&edges.at(last.node), &self.visits, last.left),
-        }
+        let node = last.node;
+        let moves = edges.at(node);
+        let left = last_unplaced(&moves, &self.visits, last.left);
+        (Frame { node, left }, moves.get(left))
     }
 
     /// Follows the next move of the path's last position.
@@ -146,8 +148,8 @@ impl Search {
             (work_left self.old.path.items self.old.visits.items)
             self.new.path.items self.new.visits.items self.new.order.items) }
     {
-        let frame = self.next_frame(edges, last);
-        let next = edges.edge(frame.node, frame.left).next;
+        let (frame, edge) = self.next_frame(edges, last);
+        let next = edge.next;
         let at = self.path.len() - 1;
         self.path[at] = frame;
         match self.visits[next] {
