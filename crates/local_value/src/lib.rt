@@ -6,6 +6,7 @@ mod budgets;
 mod chains;
 mod form_table;
 mod laws;
+mod layer_edges;
 mod memo;
 mod options;
 mod short_ids;

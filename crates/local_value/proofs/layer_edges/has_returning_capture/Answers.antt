@@ -5,7 +5,7 @@ use Rattle.std.proofs.lemmas.List.Elements.{Contains-get_or, Contains-push_cases
 use Rattle.local_graph.specs.declared.graph.Edge.{Edge}
 use Rattle.local_graph.specs.inner.Graph.{edges_at, no_edge}
 use Rattle.local_graph.specs.ReturnGraph.{IsReturningCaptureAt, StaysIn}
-use Rattle.local_value.proofs.budgets.has_returning_capture.Goals as goal
+use Rattle.local_value.proofs.layer_edges.has_returning_capture.Goals as goal
 
 pub returns-then-not-has_cycle : goal.returns-then-not-has_cycle
 returns-then-not-has_cycle c = λ _ e among captures.

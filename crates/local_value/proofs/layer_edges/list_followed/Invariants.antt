@@ -1,7 +1,7 @@
 use Rattle.std.proofs.Common.{take, length}
 use Rattle.local_graph.specs.inner.Graph.{edges_at}
 use Rattle.local_value.specs.inner.Layers.{AreFollowed}
-use Rattle.local_value.proofs.budgets.list_followed.Given as goal
+use Rattle.local_value.proofs.layer_edges.list_followed.Given as goal
 
 abbrev pub invariant-listing : goal.invariant-listing
 invariant-listing l =

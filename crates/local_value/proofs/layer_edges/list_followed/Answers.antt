@@ -4,8 +4,8 @@ use Rattle.local_graph.specs.declared.graph.Edge.{Edge}
 use Rattle.local_graph.specs.inner.Graph.{edges_at, no_edge}
 use Rattle.local_value.specs.inner.Layers.{IsFollowed}
 use Rattle.local_value.proofs.LayerLaws.{followed-on}
-use Rattle.local_value.proofs.budgets.list_followed.Goals as goal
-use Rattle.local_value.proofs.budgets.list_followed.Goals.{in-Some+in_ok-push-in-Some, in-None}
+use Rattle.local_value.proofs.layer_edges.list_followed.Goals as goal
+use Rattle.local_value.proofs.layer_edges.list_followed.Goals.{in-Some+in_ok-push-in-Some, in-None}
 
 pub followed-requires-clause-next : goal.followed-requires-clause-next
 followed-requires-clause-next c =

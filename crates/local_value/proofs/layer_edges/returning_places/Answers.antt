@@ -3,7 +3,7 @@ use Rattle.std.proofs.lemmas.List.{length-append}
 use Rattle.local_value.specs.inner.Layers.{AreMarked}
 use Rattle.local_value.proofs.LayerLaws.{mark-more}
 use Rattle.local_value.proofs.LayerPassLaws.{edges-inside}
-use Rattle.local_value.proofs.budgets.returning_places.Goals as goal
+use Rattle.local_value.proofs.layer_edges.returning_places.Goals as goal
 
 pub has_returning_capture-requires-clause-next : goal.has_returning_capture-requires-clause-next
 has_returning_capture-requires-clause-next c =

@@ -2,7 +2,7 @@ use Rattle.std.proofs.Common.{◌≡◌, ◌∙◌, ap, sym, subst, [], slice_in
 use Rattle.local_graph.specs.declared.graph.Edge.{Edge}
 use Rattle.local_value.specs.inner.Layers.{AreFollowed}
 use Rattle.local_value.proofs.LayerLaws.{all-followed}
-use Rattle.local_value.proofs.budgets.followed_edges.Goals as goal
+use Rattle.local_value.proofs.layer_edges.followed_edges.Goals as goal
 
 pub returns-then-is_unmarked : goal.returns-then-is_unmarked
 returns-then-is_unmarked c =

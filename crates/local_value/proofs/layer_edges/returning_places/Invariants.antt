@@ -1,6 +1,6 @@
 use Rattle.std.proofs.Common.{◌≡◌, length}
 use Rattle.local_value.specs.inner.Layers.{AreMarked}
-use Rattle.local_value.proofs.budgets.returning_places.Given as goal
+use Rattle.local_value.proofs.layer_edges.returning_places.Given as goal
 
 abbrev pub invariant-marking : goal.invariant-marking
 invariant-marking l = record {
