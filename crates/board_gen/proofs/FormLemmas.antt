@@ -23,7 +23,7 @@ use Rattle.short_games.proofs.StopLaws.{num-scaled}
 use Rattle.short_games.proofs.SumLaws.{plus-assoc, plus-le, plus-le_both, plus-nought}
 use Rattle.short_games.proofs.TextOrderLaws.{text-order}
 use Rattle.game_canon.specs.Changes.{HasNumberPastBounds}
-use Rattle.sum_outcome.specs.Players.{credit, gain, options}
+use Rattle.game_players.specs.Players.{credit, gain, options}
 use Rattle.short_games.proofs.ReductionLaws.{same-canonical}
 use Rattle.game_canon.proofs.NumberPartLaws.{sum-parts}
 use Rattle.game_canon.proofs.PartLaws.{fewer}

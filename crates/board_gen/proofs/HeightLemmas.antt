@@ -23,7 +23,7 @@ use Rattle.short_games.proofs.StopLaws.{num-scaled}
 use Rattle.short_games.proofs.SumLaws.{InSum, left_of_sum, neg-left, neg-right, neg_each-has, right_of_sum}
 use Rattle.short_games.proofs.SumLaws.InSum.{in_first, in_second}
 use Rattle.short_games.proofs.TextOrderLaws.{text-order}
-use Rattle.sum_outcome.specs.Players.{gain}
+use Rattle.game_players.specs.Players.{gain}
 
 -- no more than `n` moves, by either player in any order, can be made in the game
 abbrev pub IsLow : ℕ → Tree → Type 0

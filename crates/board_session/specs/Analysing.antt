@@ -16,7 +16,7 @@ use Rattle.endgame_solver.specs.Solved.{IsPlayable}
 use Rattle.report.specs.declared.score.Score.{Score}
 use Rattle.report.specs.declared.score.Score.TheVariants as points
 use Rattle.report.specs.Analysis.{IsLineText, IsMarginText, IsMovesText, name_on}
-use Rattle.report.specs.CycleAnalysis.{IsCycleMarginText, IsCycleMovesText}
+use Rattle.cycle_report.specs.CycleAnalysis.{IsCycleMarginText, IsCycleMovesText}
 use Rattle.report.specs.Score.{IsScore}
 use Rattle.report.specs.TopStones.{IsTopText}
 use Rattle.board_session.specs.declared.position.Position.{Position}

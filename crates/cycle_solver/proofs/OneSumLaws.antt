@@ -12,7 +12,7 @@ use Rattle.short_games.specs.Tree.{Tree}
 use Rattle.short_games.specs.Number.{num}
 use Rattle.short_games.specs.Sum.{◌+ᵍ◌, total}
 use Rattle.game_store.specs.Meaning.{pick}
-use Rattle.sum_outcome.proofs.PlayerLaws.{loses-or_not}
+use Rattle.game_players.proofs.PlayerLaws.{loses-or_not}
 use Rattle.endgame_solver.specs.SumGame.{balance}
 use Rattle.whole_budgets.specs.BudgetSums.{WinsGame}
 use Rattle.cycle_solver.specs.declared.asking.Present.{Present}

@@ -16,7 +16,7 @@ use Rattle.short_games.proofs.NumberLaws.{neg-num}
 use Rattle.short_games.proofs.OrderLaws.{same-path, same-refl, same-sym, same-trans}
 use Rattle.short_games.proofs.ReductionLaws.{canonical-same}
 use Rattle.short_games.proofs.SumLaws.{has-neg_each, neg_each-has, neg-le, neg-left, neg-right, neg-plus, same-plus}
-use Rattle.sum_outcome.specs.Players.{gain, options}
+use Rattle.game_players.specs.Players.{gain, options}
 use Rattle.local_value.specs.BudgetTree.{Budgeted, IsBudgetStep, IsBudgetTreeWithin, UsesBudget}
 use Rattle.local_value.specs.LocalGame.{Step}
 use Rattle.local_value.specs.Steady.{IsBudgetValue, IsLeastSteady, IsSteady}

@@ -20,7 +20,7 @@ use Rattle.short_games.proofs.StopLaws.{num-scaled}
 use Rattle.short_games.proofs.SumLaws.{same-plus}
 use Rattle.game_store.specs.Meaning.{pick}
 use Rattle.game_canon.specs.Outcomes.{AreWithin}
-use Rattle.sum_outcome.specs.Players.{LosesGame}
+use Rattle.game_players.specs.Players.{LosesGame}
 use Rattle.sum_outcome.specs.Sums.{IsBounded, sum_tree}
 use Rattle.local_value.specs.Steady.{IsBudgetValue, IsSteady}
 use Rattle.endgame_solver.specs.Decomposition.{money_tree}

@@ -18,7 +18,7 @@ use Rattle.short_games.specs.Tree.{Tree, Trees, none, more}
 use Rattle.short_games.specs.Number.{num}
 use Rattle.short_games.specs.Sum.{◌+ᵍ◌, total}
 use Rattle.short_games.proofs.OrderLaws.{same-refl}
-use Rattle.sum_outcome.proofs.PlayerLaws.{loses-or_not}
+use Rattle.game_players.proofs.PlayerLaws.{loses-or_not}
 use Rattle.local_value.specs.Steady.{IsSteady}
 use Rattle.local_value.proofs.BudgetTreeLaws.{budget_trees-exist}
 use Rattle.endgame_solver.specs.Regions.{no_region}

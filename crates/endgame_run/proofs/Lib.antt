@@ -1,5 +1,5 @@
--- How the parts of a run answer, then the runs of the commands, then what follows of them.
-mod TopLaws
+-- How the parts of a run answer, then the runs of the commands.
+pub mod TopLaws
 mod FileLaws
 mod SizeLaws
 mod RefusalLaws
@@ -9,14 +9,7 @@ mod SessionLaws
 mod EngineLaws
 mod CutLemmas
 mod RunLaws
-mod OneStatusLaws
 mod CycleAnswers
-mod CycleLaws
-mod OneGameLaws
-mod CalcLaws
 mod TrialLaws
-mod GameWinLaws
-mod CompleteLaws
-mod UseLaws
 mod StepLaws
 mod UndeclaredLaws

@@ -15,7 +15,7 @@ use Rattle.whole_rules.specs.declared.states.Move.{Move}
 use Rattle.whole_rules.specs.declared.states.Move.TheVariants.{Half, Spend, Stone}
 use Rattle.gd_words.specs.Job.{Job}
 use Rattle.gd_words.specs.Task.Task.{ask}
-use Rattle.report.specs.CycleSolution.{captures_line, winner_or_none}
+use Rattle.cycle_report.specs.CycleSolution.{captures_line, winner_or_none}
 use Rattle.report.specs.Solution.{count_line, move_line, purse_line, regions_text, solved_line, solved_lines, state_lines, token_word}
 use Rattle.board_words.specs.Words.{colour_word, winner_line, word_line}
 use Rattle.endgame_run.specs.Limits.{terms_of}

@@ -17,9 +17,9 @@ use Rattle.cycle_solver.specs.declared.faults.CycleError.{CycleError}
 use Rattle.cycle_solver.specs.declared.faults.CycleError.TheVariants.{Points, Positions, Form, Captures, Memory}
 use Rattle.fault_words.specs.declared.naming.Naming.TheVariants.{Letters}
 use Rattle.report.specs.Analysis.{name_on}
-use Rattle.report.specs.CycleAnalysis.{IsCycleMarginText, IsCycleMovesText}
-use Rattle.report.specs.CycleSolution.{IsCycleSolveText}
-use Rattle.report.specs.CycleValues.{HasShownValues, IsCycleValuesText, IsFirstCycleUnshown}
+use Rattle.cycle_report.specs.CycleAnalysis.{IsCycleMarginText, IsCycleMovesText}
+use Rattle.cycle_report.specs.CycleSolution.{IsCycleSolveText}
+use Rattle.cycle_report.specs.CycleValues.{HasShownValues, IsCycleValuesText, IsFirstCycleUnshown}
 use Rattle.endgame_run.specs.Refusal.{form_line, points_line, positions_line}
 use Rattle.endgame_run.specs.declared.status.Status.{Status}
 use Rattle.endgame_run.specs.declared.status.Status.TheVariants as status

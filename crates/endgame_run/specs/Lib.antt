@@ -18,10 +18,4 @@ pub mod Engine
 pub mod Trial
 pub mod Calc
 pub mod Run
-pub mod Output
-pub mod Complete
-pub mod KeepsWin
-pub mod Use
-pub mod Steps
-pub mod Laws
 pub mod inner

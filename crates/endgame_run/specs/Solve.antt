@@ -20,7 +20,7 @@ use Rattle.endgame_solver.specs.Faults.{AreSound}
 use Rattle.endgame_solver.specs.Solved.{OpensAs}
 use Rattle.endgame_run.specs.declared.terms.GameTerms.{GameTerms}
 use Rattle.cycle_solver.specs.Winner.{TellsWinner}
-use Rattle.report.specs.CycleSolution.{winner_or_none}
+use Rattle.cycle_report.specs.CycleSolution.{winner_or_none}
 use Rattle.report.specs.Solution.{AreNumbersOfPositions, move_line, solve_text}
 use Rattle.endgame_run.specs.File.{told_of}
 use Rattle.endgame_run.specs.Line.{HasOnlyLine}

@@ -11,7 +11,6 @@ mod file;
 mod file_limit;
 mod finding;
 mod game;
-mod laws;
 mod opening;
 mod program;
 mod question;
@@ -23,7 +22,6 @@ mod terms;
 mod top;
 mod trial;
 
-pub use laws::{run_laws, step_laws, verdict_laws};
 pub use program::{code_of_run, start};
 pub use sgf_go::FileFault;
 pub use status::Status;

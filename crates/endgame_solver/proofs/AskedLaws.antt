@@ -11,8 +11,8 @@ use Rattle.short_games.proofs.SumLaws.{plus-cancel, same-plus}
 use Rattle.game_store.specs.Meaning.{pick}
 use Rattle.sum_outcome.proofs.CheapMoveLaws.{put-total}
 use Rattle.sum_outcome.proofs.ListLaws.{pick-at, pick-put}
-use Rattle.sum_outcome.proofs.PlayerLaws.{loses-or_not, loses-same}
-use Rattle.sum_outcome.specs.Players.{LosesGame}
+use Rattle.game_players.proofs.PlayerLaws.{loses-or_not, loses-same}
+use Rattle.game_players.specs.Players.{LosesGame}
 use Rattle.endgame_solver.specs.Thresholds.{BlackWins, IsLeastWin}
 use Rattle.endgame_solver.specs.inner.Asked.{AreAnswers, IsAnswer, IsOn}
 use Rattle.endgame_solver.specs.declared.asked.Answered.{Answered}

@@ -14,8 +14,8 @@ use Rattle.short_games.proofs.OrderLaws.{le-refl, le-trans, same-path, same-refl
 use Rattle.short_games.proofs.SumLaws.{InSum, plus-assoc, plus-le, plus-le_both, plus-nought, same-comm, same-plus, same-swap}
 use Rattle.short_games.proofs.SumLaws.InSum.{in_first, in_second}
 use Rattle.short_games.proofs.ThresholdLaws.{scaled}
-use Rattle.sum_outcome.specs.Players.{LosesGame, gain, options}
-use Rattle.sum_outcome.proofs.PlayerLaws.{loses-same, option_in_first, option_in_second, option_of_sum, wins-option}
+use Rattle.game_players.specs.Players.{LosesGame, gain, options}
+use Rattle.game_players.proofs.PlayerLaws.{loses-same, option_in_first, option_in_second, option_of_sum, wins-option}
 use Rattle.local_value.specs.LocalGame.{Step, tree_within}
 use Rattle.local_value.proofs.TreeLaws.{option-move}
 use Rattle.endgame_solver.specs.SumGame.{AllEnd, parts_tree}

@@ -38,7 +38,7 @@ use Rattle.short_games.specs.Sum.{◌+ᵍ◌, total}
 use Rattle.short_games.proofs.NumberLaws.{num-double}
 use Rattle.game_store.specs.Meaning.{pick}
 use Rattle.game_canon.specs.Outcomes.{AreWithin}
-use Rattle.sum_outcome.specs.Players.{LosesGame}
+use Rattle.game_players.specs.Players.{LosesGame}
 use Rattle.sum_outcome.specs.Sums.{AreBounds, IsBounded, sum_tree}
 use Rattle.local_value.specs.PositionTree.{IsValueOf}
 use Rattle.local_value.proofs.MoveLaws.{IsEdgeFor, edge_of, move_of, next_place, taken_less}

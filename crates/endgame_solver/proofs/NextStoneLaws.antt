@@ -33,9 +33,9 @@ use Rattle.short_games.specs.Sum.{◌+ᵍ◌, total}
 use Rattle.short_games.proofs.OrderLaws.{le-trans}
 use Rattle.short_games.proofs.ReductionLaws.{canonical-number}
 use Rattle.game_store.specs.Meaning.{pick}
-use Rattle.sum_outcome.specs.Players.{LosesGame}
+use Rattle.game_players.specs.Players.{LosesGame}
 use Rattle.sum_outcome.specs.Sums.{IsBounded, sum_tree}
-use Rattle.sum_outcome.proofs.PlayerLaws.{loses-or_not}
+use Rattle.game_players.proofs.PlayerLaws.{loses-or_not}
 use Rattle.local_value.specs.PositionTree.{IsStep, IsTreeOf}
 use Rattle.local_value.proofs.TreeLaws.{trees-same}
 use Rattle.endgame_solver.specs.PlayLine.{IsAsGood, IsHot, IsHotStone, IsLineFrom, LeadsByBest}

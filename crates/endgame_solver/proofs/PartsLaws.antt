@@ -8,8 +8,8 @@ use Rattle.go_grid.specs.declared.grid.Colour.{Colour}
 use Rattle.go_grid.specs.Board.{other}
 use Rattle.short_games.specs.Tree.{Tree, Has, neg, node, none}
 use Rattle.short_games.specs.Order.{◌≡ᵍ◌}
-use Rattle.sum_outcome.specs.Players.{options, LosesGame, credit, gain}
-use Rattle.sum_outcome.proofs.PlayerLaws.{loses-same, loses-out, wins-option, loses-or_not, option_of_sum, option_in_first, option_in_second, gain-plus, gain-option, gain-has, gain-no_other}
+use Rattle.game_players.specs.Players.{options, LosesGame, credit, gain}
+use Rattle.game_players.proofs.PlayerLaws.{loses-same, loses-out, wins-option, loses-or_not, option_of_sum, option_in_first, option_in_second, gain-plus, gain-option, gain-has, gain-no_other}
 use Rattle.go_grid.specs.declared.grid.Colour.TheVariants.{Black, White}
 use Rattle.whole_rules.specs.declared.money.Token.{Token}
 use Rattle.short_games.specs.Sum.{◌+ᵍ◌}

@@ -28,8 +28,8 @@ use Rattle.short_games.specs.Sum.{◌+ᵍ◌}
 use Rattle.short_games.proofs.NumberLaws.{neg-num, no-right, num-double, num-le, num-le_plus, num-lt, num-plus_le, num-zero}
 use Rattle.short_games.proofs.OrderLaws.{le-in, le-refl, le-trans, size-left, size-pos}
 use Rattle.short_games.proofs.SumLaws.{neg-le, neg-neg, nought, nought-plus, plus-assoc, plus-le, plus-le_both}
-use Rattle.sum_outcome.specs.Players.{LosesGame, credit}
-use Rattle.sum_outcome.proofs.PlayerLaws.{loses-or_not}
+use Rattle.game_players.specs.Players.{LosesGame, credit}
+use Rattle.game_players.proofs.PlayerLaws.{loses-or_not}
 use Rattle.endgame_solver.specs.SumGame.{balance, halves}
 use Rattle.endgame_solver.specs.Thresholds.{BlackWins, IsLeastWin}
 

@@ -34,8 +34,8 @@ use Rattle.short_games.proofs.NumberLaws.{num-double, num-plus_le, num-le_plus}
 use Rattle.short_games.proofs.OrderLaws.{le-trans, same-path, same-refl, same-sym, same-trans}
 use Rattle.short_games.proofs.SumLaws.{nought, nought-plus, plus-assoc, same-plus}
 use Rattle.game_store.specs.Meaning.{pick}
-use Rattle.sum_outcome.specs.Players.{credit, gain, options, LosesGame}
-use Rattle.sum_outcome.proofs.PlayerLaws.{loses-same}
+use Rattle.game_players.specs.Players.{credit, gain, options, LosesGame}
+use Rattle.game_players.proofs.PlayerLaws.{loses-same}
 use Rattle.local_play.specs.LocalPlay.{IsLocalMove}
 use Rattle.local_graph.specs.declared.cycle.CycleMove.{CycleMove}
 use Rattle.local_graph.specs.FiniteLocalPlay.{HasNoCycle}

@@ -21,7 +21,7 @@ use Rattle.local_graph.specs.Graph.{Graph}
 use Rattle.local_graph.specs.inner.Graph.{edges_at, no_edge}
 use Rattle.short_games.specs.Tree.{Tree}
 use Rattle.game_store.specs.Meaning.{pick, AreIds}
-use Rattle.sum_outcome.specs.Players.{LosesGame}
+use Rattle.game_players.specs.Players.{LosesGame}
 use Rattle.sum_outcome.specs.Sums.{IsBounded, sum_tree}
 use Rattle.endgame_solver.specs.Regions.{IsStoneAt, region_at}
 use Rattle.endgame_solver.specs.Solved.{ArePresent, balance_units}

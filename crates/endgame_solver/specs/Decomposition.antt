@@ -19,7 +19,7 @@ use Rattle.region_cut.specs.LocalBoard.{HoldsPosition}
 use Rattle.short_games.specs.Tree.{Tree, Trees, none, more}
 use Rattle.short_games.specs.Number.{num}
 use Rattle.short_games.specs.Sum.{◌+ᵍ◌, total}
-use Rattle.sum_outcome.specs.Players.{credit, LosesGame}
+use Rattle.game_players.specs.Players.{credit, LosesGame}
 use Rattle.local_value.specs.PositionTree.{IsTreeOf}
 use Rattle.endgame_solver.specs.SumGame.{token_tree}
 

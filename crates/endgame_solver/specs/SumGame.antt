@@ -12,7 +12,7 @@ use Rattle.local_value.specs.Ending.{EndsWithin}
 use Rattle.short_games.specs.Tree.{Tree, node, none}
 use Rattle.short_games.specs.Sum.{◌+ᵍ◌}
 use Rattle.short_games.specs.Number.{num}
-use Rattle.sum_outcome.specs.Players.{credit, gain, LosesGame}
+use Rattle.game_players.specs.Players.{credit, gain, LosesGame}
 use Rattle.local_value.specs.LocalGame.{Step, StepsTo, tree_within}
 
 -- the tree of a token: half a unit for its owner

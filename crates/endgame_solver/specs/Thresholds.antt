@@ -13,7 +13,7 @@ use Rattle.region_cut.specs.Cut.{AreRegionsOfPlay}
 use Rattle.short_games.specs.Tree.{Tree, Trees}
 use Rattle.short_games.specs.Number.{num}
 use Rattle.short_games.specs.Sum.{◌+ᵍ◌, total}
-use Rattle.sum_outcome.specs.Players.{LosesGame}
+use Rattle.game_players.specs.Players.{LosesGame}
 use Rattle.endgame_solver.specs.Decomposition.{AreTreesOn}
 use Rattle.endgame_solver.specs.SumGame.{balance}
 

@@ -10,7 +10,7 @@ ghost use Rattle.short_games.specs.Number.{num};
 ghost use Rattle.short_games.specs.Sum.{◌+ᵍ◌, total};
 ghost use Rattle.game_store.specs.Meaning.{pick};
 ghost use Rattle.sum_outcome.specs.Memo.{Fits};
-ghost use Rattle.sum_outcome.specs.Players.{LosesGame};
+ghost use Rattle.game_players.specs.Players.{LosesGame};
 ghost use Rattle.endgame_solver.specs.ModestGames.{AreModestGames};
 ghost use Rattle.endgame_solver.specs.SumGame.{AreModest, balance};
 ghost use Rattle.endgame_solver.specs.Thresholds.{BlackWins, IsLeastWin};

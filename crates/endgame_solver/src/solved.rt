@@ -10,7 +10,7 @@ ghost use Rattle.whole_rules.specs.Threshold.{stones};
 ghost use Rattle.whole_rules.specs.Walls.{Plays};
 ghost use Rattle.whole_rules.specs.WholeGame.{Applies, IsLegal, IsMove};
 ghost use Rattle.sum_outcome.specs.Memo.{Fits};
-ghost use Rattle.sum_outcome.specs.Players.{LosesGame};
+ghost use Rattle.game_players.specs.Players.{LosesGame};
 ghost use Rattle.sum_outcome.specs.Sums.{sum_tree};
 ghost use Rattle.endgame_solver.specs.Regions.{region_at};
 ghost use Rattle.endgame_solver.specs.Faults.{most_steps};

@@ -8,7 +8,7 @@ ghost use Rattle.short_games.specs.Sum.{◌+ᵍ◌, total};
 ghost use Rattle.game_store.specs.Meaning.{pick};
 ghost use Rattle.game_canon.specs.Outcomes.{AreWithin};
 ghost use Rattle.sum_outcome.specs.Memo.{Fits};
-ghost use Rattle.sum_outcome.specs.Players.{LosesGame};
+ghost use Rattle.game_players.specs.Players.{LosesGame};
 ghost use Rattle.endgame_solver.specs.ModestGames.{AreModestGames, most_value};
 ghost use Rattle.endgame_solver.specs.SumGame.{AreModest, balance};
 ghost use Rattle.endgame_solver.specs.Thresholds.{BlackWins, IsLeastWin};

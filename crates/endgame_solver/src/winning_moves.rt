@@ -7,7 +7,7 @@ ghost use Rattle.whole_rules.specs.declared.states.Move.TheVariants.{Stone, Spen
 ghost use Rattle.whole_rules.specs.FirstWinningMove.{IsFirstWinning, IsLosing, IsWinning};
 ghost use Rattle.game_store.specs.Meaning.{AreIds, pick};
 ghost use Rattle.sum_outcome.specs.Memo.{Fits};
-ghost use Rattle.sum_outcome.specs.Players.{LosesGame};
+ghost use Rattle.game_players.specs.Players.{LosesGame};
 ghost use Rattle.sum_outcome.specs.Sums.{IsBounded, sum_tree};
 ghost use Rattle.endgame_solver.specs.Regions.{IsStoneAt};
 ghost use Rattle.endgame_solver.specs.inner.Held.{IsStoneEdge, IsFirstStone};

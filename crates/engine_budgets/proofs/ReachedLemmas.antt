@@ -13,7 +13,7 @@ use Rattle.whole_rules.specs.WholeGame.{Whole, IsMove}
 use Rattle.whole_rules.proofs.WallLaws.{Keeps}
 use Rattle.short_games.specs.Tree.{Tree, Trees, none, more}
 use Rattle.short_games.specs.Sum.{◌+ᵍ◌, total}
-use Rattle.sum_outcome.proofs.PlayerLaws.{loses-or_not}
+use Rattle.game_players.proofs.PlayerLaws.{loses-or_not}
 use Rattle.local_value.specs.Ending.{EndsWithin}
 use Rattle.local_value.proofs.BudgetTreeLaws.{budget_tree, colour_or_not, enough}
 use Rattle.endgame_solver.specs.Decomposition.{money_tree}

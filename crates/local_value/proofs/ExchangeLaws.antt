@@ -23,7 +23,7 @@ use Rattle.short_games.specs.Tree.{Tree, node, none, left, right, Has, neg}
 use Rattle.short_games.proofs.NumberLaws.{neg-num}
 use Rattle.short_games.proofs.OrderLaws.{same-path, same-refl, same-trans}
 use Rattle.short_games.proofs.SumLaws.{has-neg_each, neg_each-has, neg-left, neg-right, neg-plus, same-plus}
-use Rattle.sum_outcome.specs.Players.{gain, options}
+use Rattle.game_players.specs.Players.{gain, options}
 use Rattle.local_value.specs.LocalGame.{Step}
 use Rattle.local_value.specs.BudgetTree.{Budgeted, UsesBudget, IsBudgetStep, IsBudgetTreeWithin}
 use Rattle.local_value.specs.BudgetLaws.{exchanged_cell, exchanged_touch, ExchangeNegates}

@@ -29,7 +29,7 @@ use Rattle.game_canon.specs.declared.errors.FormError.TheVariants.{Parts, Bounds
 use Rattle.game_canon.proofs.CanonicalFormLaws.{made-no_number}
 use Rattle.game_canon.proofs.ChangeLaws.{tree-number}
 use Rattle.game_canon.proofs.PartLaws.{fewer}
-use Rattle.sum_outcome.specs.Players.{gain, options}
+use Rattle.game_players.specs.Players.{gain, options}
 use Rattle.local_value.specs.LocalGame.{Step}
 use Rattle.local_value.specs.Values.{IsPlaceOf}
 use Rattle.local_value.specs.BudgetTree.{Budgeted, UsesBudget, IsBudgetAfter, IsBudgetStep, IsBudgetTreeWithin, IsBudgetTree}

@@ -25,7 +25,7 @@ use Rattle.game_store.specs.Forms.{HaveForms}
 use Rattle.short_games.proofs.StopLaws.{num-scaled}
 use Rattle.game_canon.specs.declared.errors.FormError.TheVariants.{Bounds, Parts, Memory}
 use Rattle.game_canon.specs.Changes.{IsSumRefusal}
-use Rattle.sum_outcome.specs.Players.{credit, gain, options}
+use Rattle.game_players.specs.Players.{credit, gain, options}
 use Rattle.game_canon.proofs.ChangedIdLaws.{extends-on}
 use Rattle.game_canon.proofs.NumberPartLaws.{sum-fits, same-sum}
 use Rattle.local_value.specs.inner.Valuing.{noted, IsWithinAfter, IsAfter, most_units, IsNoted, tree_after, AreWithinAfter, AreAfter, AreBothAfter, HasEdges}

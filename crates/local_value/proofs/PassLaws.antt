@@ -17,7 +17,7 @@ use Rattle.short_games.specs.Parts.{HasMoreParts}
 use Rattle.short_games.proofs.NumberLaws.{num-zero}
 use Rattle.short_games.proofs.ReductionLaws.{number-canonical, same-canonical}
 use Rattle.game_canon.specs.Outcomes.{IsCanonicalId, AreWithin, IsCause}
-use Rattle.sum_outcome.specs.Players.{gain}
+use Rattle.game_players.specs.Players.{gain}
 use Rattle.game_canon.proofs.PartLaws.{fewer}
 use Rattle.short_games.proofs.OrderLaws.{same-path, same-refl, same-trans}
 use Rattle.short_games.proofs.SumLaws.{same-plus}

@@ -5,7 +5,7 @@ use Rattle.go_grid.specs.declared.grid.Colour.TheVariants.{Black, White}
 use Rattle.short_games.specs.Tree.{Tree, node, none, more, Has, left, right}
 use Rattle.short_games.specs.Sum.{◌+ᵍ◌}
 use Rattle.local_value.specs.Ending.{EndsWithin}
-use Rattle.sum_outcome.specs.Players.{options, gain}
+use Rattle.game_players.specs.Players.{options, gain}
 use Rattle.local_value.specs.LocalGame.{Step, after, tree_within, StepsTo}
 use Rattle.short_games.specs.Order.{◌≡ᵍ◌}
 use Rattle.short_games.proofs.FormLaws.{by_better}

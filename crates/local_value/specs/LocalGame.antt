@@ -4,7 +4,7 @@ use Rattle.go_grid.specs.declared.grid.Colour.{Colour}
 use Rattle.go_grid.specs.declared.grid.Colour.TheVariants.{Black, White}
 use Rattle.short_games.specs.Tree.{Tree, Trees, node, none, more}
 use Rattle.short_games.specs.Sum.{◌+ᵍ◌}
-use Rattle.sum_outcome.specs.Players.{gain}
+use Rattle.game_players.specs.Players.{gain}
 
 -- where a local move leads, and how many stones it takes
 pub record Step (P : Type 0) : Type 0 where

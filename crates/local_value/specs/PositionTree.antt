@@ -8,7 +8,7 @@ use Rattle.short_games.specs.TextOrder.{IsCanonicalTree}
 use Rattle.go_grid.specs.declared.grid.Colour.{Colour}
 use Rattle.short_games.specs.Tree.{Tree, node, none, Has}
 use Rattle.short_games.specs.Sum.{◌+ᵍ◌}
-use Rattle.sum_outcome.specs.Players.{options, gain}
+use Rattle.game_players.specs.Players.{options, gain}
 use Rattle.local_value.specs.LocalGame.{Step}
 
 module _ (P : Type 0) (IsMove : Colour → P → Step P → Type 0) where

@@ -1,6 +1,6 @@
 //! The values of all positions of a graph.
 
-ghost use Rattle.std.specs.Prelude.{ℕ, ◌≡◌, ◌↔◌, ◌<◌, ◌≤◌, ◌+◌, ◌-◌, ◌*◌, ◌^◌, unsigned_abs, List, length, slice_index, IfOk, IfErr, OnOk, Contains, true};
+ghost use Rattle.std.specs.Prelude.{ℕ, ◌≡◌, ◌↔◌, ◌<◌, ◌≤◌, ◌+◌, ◌-◌, ◌*◌, ◌^◌, List, length, slice_index, IfOk, IfErr, OnOk, Contains, true};
 ghost use Rattle.go_grid.specs.Region.{Region};
 ghost use Rattle.go_grid.specs.declared.grid.Colour.TheVariants.{Black, White};
 ghost use Rattle.short_games.specs.Tree.{Tree, tree_at};
@@ -8,7 +8,6 @@ ghost use Rattle.game_store.specs.Meaning.{Extends};
 ghost use Rattle.short_games.specs.Parts.{HasMoreParts};
 ghost use Rattle.game_canon.specs.Changes.{HasNumberPastBounds};
 ghost use Rattle.game_canon.specs.Outcomes.{IsCanonicalId, IsCause, AreWithin};
-ghost use Rattle.sum_outcome.specs.Players.{credit};
 ghost use Rattle.local_value.specs.Remembered.{options_of, AreStonesSumsRight};
 ghost use Rattle.local_value.specs.inner.Memo.{IsMemoRight};
 ghost use Rattle.local_value.specs.Refusals.{IsValueRefusal};
@@ -21,6 +20,7 @@ use crate::short_ids::{ShortId, lengthened, shortened};
 use crate::sum_table::SumTable;
 use dyadic_num::EXPONENT;
 use game_canon::FormError;
+use game_players::credit;
 use game_store::{GameId, Store};
 use go_grid::Colour;
 use item_list::ItemList;
@@ -29,18 +29,6 @@ use std::alloc::{AllocError, Global};
 
 /// Ids of a store, one for each position of a graph, by its place.
 pub type Values = ItemList<GameId>;
-
-/// So many stones to the good of the player, as stones to the good of Black.
-fn credit(player: Colour, stones: u8) -> i32
-    ensures credit { result ≡ credit player stones }
-    ensures small { unsigned_abs result ≤ 255 }
-{
-    let stones = i32::from(stones);
-    match player {
-        Colour::Black => stones,
-        Colour::White => -stones,
-    }
-}
 
 /// The value after an edge: that of the position that it leads to, with the stones that it takes.
 #[inline(always)]

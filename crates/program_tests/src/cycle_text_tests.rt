@@ -3,10 +3,10 @@
 use crate::asserts::none_wrong;
 use crate::cycle_game_tests::{CycleOpened, begun};
 use crate::worked_games::{ENDLESS, Game, MOST, ONE_OPEN};
+use cycle_report::{cycle_margin_text, cycle_moves_text, cycle_values_text};
 use cycle_solver::CycleGame;
 use fault_words::Naming;
 use go_grid::Colour;
-use report::{cycle_margin_text, cycle_moves_text, cycle_values_text};
 use std::alloc::Global;
 
 /// A game that is settled but for a half point.

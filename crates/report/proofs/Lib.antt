@@ -3,10 +3,8 @@ pub mod SafetyLaws
 pub mod SolutionLaws
 pub mod TextLaws
 pub mod ValuesLaws
-pub mod CycleValuesLaws
 pub mod ChainLaws
 pub mod TrialLaws
 pub mod AnalysisLaws
-pub mod CycleAnalysisLaws
 pub mod TopStonesLaws
 pub mod ScoreLaws

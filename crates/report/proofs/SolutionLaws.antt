@@ -7,10 +7,8 @@ use Rattle.go_grid.specs.Region.{Region}
 use Rattle.region_cut.specs.Cut.{lowest}
 use Rattle.endgame_solver.specs.Regions.{region_at, no_region}
 use Rattle.endgame_solver.specs.Solved.{Solved, IsNumberOfPositions}
-use Rattle.report.specs.Solution.{AreNumbersOfPositions, IsSolveText, count_line, move_line, solved_lines, regions_text, solved_line, state_lines}
-use Rattle.report.specs.CycleSolution.{IsCycleSolveText, cycle_outcome_text}
-use Rattle.report.specs.inner.CycleSolution.{HasCycleOutcome}
-use Rattle.report.specs.inner.Solution.{HasLines, HasOutcome, HasRegions}
+use Rattle.report.specs.Solution.{AreNumbersOfPositions, HasLines, HasRegions, IsSolveText, count_line, move_line, solved_lines, regions_text, solved_line, state_lines}
+use Rattle.report.specs.inner.Solution.{HasOutcome}
 use Rattle.board_words.specs.Words.{winner_line}
 use Rattle.report.proofs.TextLaws.{three_more, three_pieces}
 
@@ -70,20 +68,4 @@ text_is game a b c d e empty state regions outcome same = record {
   first = outcome.first;
   is = same ∙ three_pieces a b c d (state_lines game.state) (regions_text game.state.board.columns game.regions regions.numbers)
       (winner_line outcome.winner ++ move_line game.state.board.columns outcome.move) empty state regions.text outcome.text;
-}
-
--- and that of a game with cycles
-pub cycle_text_is : (game : Solved) (a b c d e : List ℕ) → a ≡ [] → b ≡ a ++ state_lines game.state
-    → HasRegions game.state.board.columns game.regions b c → HasCycleOutcome game c d → e ≡ d → IsCycleSolveText game e
-cycle_text_is game a b c d e empty state regions outcome same = record {
-  numbers = regions.numbers;
-  winner = outcome.winner;
-  captures = outcome.captures;
-  move = outcome.move;
-  counted = regions.counted;
-  wins = outcome.wins;
-  least = outcome.least;
-  first = outcome.first;
-  is = same ∙ three_pieces a b c d (state_lines game.state) (regions_text game.state.board.columns game.regions regions.numbers)
-      (cycle_outcome_text game.state.board.columns outcome.winner outcome.captures outcome.move) empty state regions.text outcome.text;
 }

@@ -1,14 +1,11 @@
 pub mod Solution
-pub mod CycleSolution
 pub mod Listing
 pub mod Chains
 pub mod Safety
 pub mod Values
-pub mod CycleValues
 pub mod Trial
 pub mod Komi
 pub mod Analysis
-pub mod CycleAnalysis
 pub mod BoardText
 pub mod Score
 pub mod TopStones

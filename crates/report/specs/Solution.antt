@@ -60,6 +60,19 @@ AreNumbersOfPositions [] [] = ⊤
 AreNumbersOfPositions (r ∷ regions) (n ∷ numbers) = IsNumberOfPositions r n × AreNumbersOfPositions regions numbers
 AreNumbersOfPositions regions numbers = ⊥
 
+-- behind the text stand the lines of the regions, and this is how many positions they have together
+pub record HasLines (columns : ℕ) (regions : List Region) (before now : List ℕ) (total : ℕ) : Type 0 where
+  pub numbers : List ℕ
+  pub counted : AreNumbersOfPositions regions numbers
+  pub lines : now ≡ before ++ solved_lines columns regions numbers
+  pub whole : total ≡ sum numbers
+
+-- behind the text stands what is said of the regions
+pub record HasRegions (columns : ℕ) (regions : List Region) (before now : List ℕ) : Type 0 where
+  pub numbers : List ℕ
+  pub counted : AreNumbersOfPositions regions numbers
+  pub text : now ≡ before ++ regions_text columns regions numbers
+
 -- the text of `solve` for a solved game
 pub record IsSolveText (game : Solved) (text : List ℕ) : Type 0 where
   pub numbers : List ℕ

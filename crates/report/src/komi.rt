@@ -20,7 +20,7 @@ fn write_front(text: &mut String, label: &str, halves: i64) -> Result<(), AllocE
 
 /// Appends the line of a komi in half-points.
 #[tactic(auto, using(std::proofs::Common::append_assoc), unfolding(crate::specs::Komi::komi_line))]
-pub(crate) fn write_komi(text: &mut String, label: &str, halves: i64) -> Result<(), AllocError>
+pub fn write_komi(text: &mut String, label: &str, halves: i64) -> Result<(), AllocError>
     ensures { OnOk result
         (string_bytes text.new ≡ string_bytes text.old ++ komi_line label.now halves) }
 {
@@ -30,7 +30,7 @@ pub(crate) fn write_komi(text: &mut String, label: &str, halves: i64) -> Result<
 
 /// Appends the line of two komi in half-points.
 #[tactic(auto, using(std::proofs::Common::append_assoc), unfolding(crate::specs::Komi::komi_line, crate::specs::Komi::komi_pair_line))]
-pub(crate) fn write_komi_pair(
+pub fn write_komi_pair(
     text: &mut String,
     label: &str,
     first: i64,

@@ -1,12 +1,9 @@
-//! The texts that the commands write.
+//! The texts that the commands write, where no ko can arise.
 #![tactic(auto)]
 
 mod analysis;
 mod board;
 mod chains;
-mod cycle_analysis;
-mod cycle_solution;
-mod cycle_values;
 mod komi;
 mod play_line;
 mod safety;
@@ -18,13 +15,11 @@ mod values;
 
 pub use analysis::{margin_text, moves_text};
 pub use board::{Terms, board_text};
-pub use cycle_analysis::{cycle_margin_text, cycle_moves_text};
-pub use cycle_solution::cycle_solve_text;
-pub use cycle_values::cycle_values_text;
+pub use komi::{write_komi, write_komi_pair};
 pub use play_line::line_text;
 pub use safety::safe_text;
 pub use score::{Score, score_of};
-pub use solution::solve_text;
+pub use solution::{solve_text, write_chosen, write_count, write_region, write_state};
 pub use top_stones::top_stones_text;
 pub use trial::trial_text;
-pub use values::{ValuesError, values_text};
+pub use values::{ValuesError, add_region, show_value, values_text};

@@ -2,8 +2,8 @@
 
 ghost use Rattle.std.specs.Prelude.{◌≡◌, ◌<◌, ◌*◌, ◌++◌, OnOk, IfOk, IfSome, MatchOption, string_bytes, Some};
 ghost use Rattle.go_grid.specs.Board.{other};
-ghost use Rattle.report.specs.Solution.{IsSolveText, count_line, move_line, purse_line, solved_line, state_lines, token_word};
-ghost use Rattle.report.specs.inner.Solution.{HasLines, HasOutcome, HasRegions};
+ghost use Rattle.report.specs.Solution.{HasLines, HasRegions, IsSolveText, count_line, move_line, purse_line, solved_line, state_lines, token_word};
+ghost use Rattle.report.specs.inner.Solution.{HasOutcome};
 ghost use Rattle.whole_rules.specs.Moves.{IsMoveOnBoard};
 ghost use Rattle.board_words.specs.Words.{winner_line};
 
@@ -36,7 +36,7 @@ fn write_purse(text: &mut String, colour: Colour, purse: u64) -> Result<(), Allo
 
 /// Appends the lines on the side to move, the purses and the token.
 #[tactic(auto, using(std::proofs::Common::append_assoc))]
-pub(crate) fn write_state(text: &mut String, state: &Whole) -> Result<(), AllocError>
+pub fn write_state(text: &mut String, state: &Whole) -> Result<(), AllocError>
     ensures { OnOk result (string_bytes text.new ≡ string_bytes text.old ++ state_lines state.now) }
 {
     write_words(text, "side", colour_word(state.side()))?;
@@ -60,11 +60,7 @@ fn write_move(text: &mut String, size: Size, chosen: Move) -> Result<(), AllocEr
 }
 
 /// Appends the line of a move, if there is one.
-pub(crate) fn write_chosen(
-    text: &mut String,
-    size: Size,
-    chosen: Option<Move>,
-) -> Result<(), AllocError>
+pub fn write_chosen(text: &mut String, size: Size, chosen: Option<Move>) -> Result<(), AllocError>
     requires { IfSome chosen (IsMoveOnBoard size.columns size.rows) }
     ensures { OnOk result
         (string_bytes text.new ≡ string_bytes text.old ++ move_line size.columns chosen) }
@@ -117,7 +113,7 @@ pub(crate) fn write_solution(text: &mut String, solved: &mut Solved) -> Result<(
 
 /// Appends the line of a number.
 #[tactic(auto, unfolding(crate::specs::Solution::count_line))]
-pub(crate) fn write_count(text: &mut String, label: &str, count: u128) -> Result<(), AllocError>
+pub fn write_count(text: &mut String, label: &str, count: u128) -> Result<(), AllocError>
     ensures { OnOk result
         (string_bytes text.new ≡ string_bytes text.old ++ count_line label.now count) }
 {
@@ -125,7 +121,7 @@ pub(crate) fn write_count(text: &mut String, label: &str, count: u128) -> Result
 }
 
 /// Appends the line of a region by its lowest point, the number of its points and that of its positions.
-pub(crate) fn write_region(
+pub fn write_region(
     text: &mut String,
     size: Size,
     lowest: Point,

@@ -44,7 +44,7 @@ impl From<AllocError> for ValuesError {
 }
 
 /// What is shown of a value, or a refusal with the point.
-pub(crate) fn show_value(
+pub fn show_value(
     alloc: Global,
     store: &Store,
     value: GameId,
@@ -63,7 +63,7 @@ pub(crate) fn show_value(
 }
 
 /// Appends the line of a region by its lowest point, the number of its points and that of its positions.
-pub(crate) fn add_region(
+pub fn add_region(
     alloc: Global,
     text: &mut Text,
     size: Size,

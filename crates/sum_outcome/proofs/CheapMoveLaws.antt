@@ -14,8 +14,8 @@ use Rattle.short_games.proofs.SumLaws.InSum.{in_first, in_second}
 use Rattle.short_games.proofs.NumberLaws.{num-left, num-right, num-zero, num-plus_le, num-le_plus}
 use Rattle.short_games.proofs.ReductionLaws.{canonical-number}
 use Rattle.short_games.proofs.AvoidanceLaws.{cheap_left, cheap_right}
-use Rattle.sum_outcome.specs.Players.{options, credit, LosesGame}
-use Rattle.sum_outcome.proofs.PlayerLaws.{option_of_sum, option_in_first, option_in_second, loses-out, wins-option, loses-or_not}
+use Rattle.game_players.specs.Players.{options, credit, LosesGame}
+use Rattle.game_players.proofs.PlayerLaws.{option_of_sum, option_in_first, option_in_second, loses-out, wins-option, loses-or_not}
 use Rattle.sum_outcome.specs.inner.Search.{IsNonNumber, IsMove, put}
 
 -- the game at a place

@@ -12,7 +12,7 @@ use Rattle.short_games.proofs.OrderLaws.{le-refl, same-refl, same-path, same-sym
 use Rattle.short_games.proofs.SumLaws.{plus-assoc, same-plus, same-comm, same-swap}
 use Rattle.game_store.proofs.EntryLaws.{has-pick}
 use Rattle.short_games.specs.SumLaws.{incentive}
-use Rattle.sum_outcome.specs.Players.{options, LosesGame}
+use Rattle.game_players.specs.Players.{options, LosesGame}
 use Rattle.short_games.proofs.IncentiveLaws.{incentive-dominates, incentive-dominates_back}
 use Rattle.sum_outcome.specs.Sums.{sum_tree}
 use Rattle.sum_outcome.specs.inner.Search.{put, IsMove, WinsAt}

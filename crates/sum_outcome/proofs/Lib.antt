@@ -1,4 +1,3 @@
-pub mod PlayerLaws
 pub mod CheapMoveLaws
 pub mod ListLaws
 pub mod NumberLaws

@@ -15,7 +15,7 @@ use Rattle.game_store.specs.Meaning.{pick, AreIds}
 use Rattle.game_store.proofs.EntryLaws.{pick-has}
 use Rattle.short_games.proofs.TextOrderLaws.{sorted-has, has-sorted}
 use Rattle.short_games.proofs.PartLaws.{option-numbers}
-use Rattle.sum_outcome.specs.Players.{options, LosesGame}
+use Rattle.game_players.specs.Players.{options, LosesGame}
 use Rattle.sum_outcome.specs.Sums.{sum_tree, AreBounds, IsBounded}
 use Rattle.sum_outcome.specs.inner.Search.{HasNonNumber, IsMove, put, WinsAt}
 use Rattle.sum_outcome.proofs.CheapMoveLaws.{IsAt, loses-by_games, wins-by_move}

@@ -21,8 +21,8 @@ use Rattle.short_games.specs.Sum.{◌+ᵍ◌, total}
 use Rattle.short_games.specs.SumLaws.{incentive}
 use Rattle.game_store.specs.Meaning.{pick, AreIds, Extends}
 use Rattle.short_games.specs.Number.{number_tree}
-use Rattle.sum_outcome.specs.Players.{LosesGame}
-use Rattle.sum_outcome.proofs.PlayerLaws.{loses-same}
+use Rattle.game_players.specs.Players.{LosesGame}
+use Rattle.game_players.proofs.PlayerLaws.{loses-same}
 use Rattle.short_games.proofs.OrderLaws.{same-sym}
 use Rattle.game_canon.proofs.SumQuestionLaws.{right_grown}
 use Rattle.sum_outcome.specs.Sums.{sum_tree}

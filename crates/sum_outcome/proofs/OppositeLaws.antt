@@ -12,9 +12,9 @@ use Rattle.short_games.proofs.OrderLaws.{le-trans, same-refl, same-path, same-sy
 use Rattle.short_games.proofs.SumLaws.{nought, nought-plus, plus-nought, plus-neg, plus-assoc, same-plus, same-comm}
 use Rattle.short_games.proofs.NumberLaws.{num-zero}
 use Rattle.short_games.specs.SumLaws.{incentive}
-use Rattle.sum_outcome.specs.Players.{LosesGame}
+use Rattle.game_players.specs.Players.{LosesGame}
 use Rattle.short_games.proofs.IncentiveLaws.{incentive-dominates}
-use Rattle.sum_outcome.proofs.PlayerLaws.{loses-same}
+use Rattle.game_players.proofs.PlayerLaws.{loses-same}
 use Rattle.game_canon.proofs.NumberSizeLaws.{own-number}
 use Rattle.sum_outcome.specs.Sums.{sum_tree, AreBounds, IsBounded}
 use Rattle.sum_outcome.specs.inner.Search.{put}

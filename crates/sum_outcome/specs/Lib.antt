@@ -1,4 +1,3 @@
-pub mod Players
 pub mod Sums
 pub mod Memo
 pub mod Incentives

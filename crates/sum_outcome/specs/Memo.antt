@@ -4,7 +4,7 @@ use Rattle.go_grid.specs.declared.grid.Colour.{Colour}
 use Rattle.go_grid.specs.declared.grid.Colour.TheVariants.{Black, White}
 use Rattle.short_games.specs.Tree.{Tree}
 use Rattle.game_store.specs.Meaning.{AreIds, Extends}
-use Rattle.sum_outcome.specs.Players.{LosesGame}
+use Rattle.game_players.specs.Players.{LosesGame}
 use Rattle.game_canon.specs.SumComparisons.{Compared, AreComparisonsRight}
 use Rattle.sum_outcome.specs.Sums.{sum_tree}
 use Rattle.sum_outcome.specs.Incentives.{AreIncentivesRight}

@@ -4,7 +4,7 @@ use Rattle.go_grid.specs.declared.grid.Colour.{Colour}
 use Rattle.short_games.specs.Tree.{Tree, neg, tree_at}
 use Rattle.short_games.specs.Sum.{◌+ᵍ◌}
 use Rattle.short_games.specs.Number.{number_tree}
-use Rattle.sum_outcome.specs.Players.{LosesGame}
+use Rattle.game_players.specs.Players.{LosesGame}
 
 -- a game and its negative may be taken out of a sum: who loses stays the same
 abbrev pub MayBeTakenOut : Type 0

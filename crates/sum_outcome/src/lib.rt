@@ -4,7 +4,7 @@
 ghost use Rattle.std.specs.Prelude.{◌≡◌, ◌<◌, ◌≤◌, ◌↔◌, List, length, IfOk, IsTrue};
 ghost use Rattle.short_games.specs.Tree.{Tree};
 ghost use Rattle.game_store.specs.Meaning.{pick, AreIds, Extends};
-ghost use Rattle.sum_outcome.specs.Players.{LosesGame};
+ghost use Rattle.game_players.specs.Players.{LosesGame};
 ghost use Rattle.sum_outcome.specs.Sums.{sum_tree, IsBounded};
 ghost use Rattle.sum_outcome.specs.Memo.{blank_search, Fits, IsWithinEntries, FitsGrownStores};
 

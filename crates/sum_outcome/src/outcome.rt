@@ -8,7 +8,7 @@ ghost use Rattle.short_games.specs.Tree.{Tree, Has, tree_at};
 ghost use Rattle.short_games.specs.Number.{IsNumberTree};
 ghost use Rattle.short_games.specs.TextOrder.{IsCanonicalTree};
 ghost use Rattle.game_store.specs.Meaning.{pick, AreIds};
-ghost use Rattle.sum_outcome.specs.Players.{LosesGame};
+ghost use Rattle.game_players.specs.Players.{LosesGame};
 ghost use Rattle.sum_outcome.specs.Sums.{sum_tree, IsBounded};
 ghost use Rattle.sum_outcome.specs.inner.Memo.{IsRight, StaysRight};
 ghost use Rattle.sum_outcome.specs.inner.Incentives.{IsPlaceSettled};

@@ -23,8 +23,8 @@ use Rattle.short_games.specs.Order.{◌≡ᵍ◌}
 use Rattle.short_games.specs.Sum.{◌+ᵍ◌, total}
 use Rattle.short_games.proofs.OrderLaws.{same-refl, same-sym, same-trans}
 use Rattle.short_games.proofs.SumLaws.{same-plus}
-use Rattle.sum_outcome.specs.Players.{LosesGame}
-use Rattle.sum_outcome.proofs.PlayerLaws.{loses-same}
+use Rattle.game_players.specs.Players.{LosesGame}
+use Rattle.game_players.proofs.PlayerLaws.{loses-same}
 use Rattle.local_value.specs.BudgetTree.{IsBudgetTree}
 use Rattle.local_value.specs.Ending.{EndsWithin}
 use Rattle.local_value.proofs.BudgetTreeLaws.{budget_tree, enough, steady_stays}

@@ -18,7 +18,7 @@ use Rattle.gtp_words.specs.declared.end.GtpEnd.{GtpEnd}
 use Rattle.gtp_words.specs.declared.end.GtpEnd.TheVariants as end
 use Rattle.fault_words.specs.declared.naming.Naming.TheVariants.{Letters}
 use Rattle.report.specs.Analysis.{IsLineText, IsMarginText, IsMovesText, name_on}
-use Rattle.report.specs.CycleValues.{IsCycleValuesText, IsFirstCycleUnshown}
+use Rattle.cycle_report.specs.CycleValues.{IsCycleValuesText, IsFirstCycleUnshown}
 use Rattle.report.specs.Solution.{IsSolveText}
 use Rattle.report.specs.Values.{IsFirstUnshown, IsValuesText}
 use Rattle.endgame_run.specs.Cycles.{IsGameText}

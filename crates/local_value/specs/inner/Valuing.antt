@@ -10,7 +10,7 @@ use Rattle.short_games.specs.Sum.{◌+ᵍ◌}
 use Rattle.short_games.specs.TextOrder.{IsCanonicalFor}
 use Rattle.short_games.specs.Parts.{IsNumberOf}
 use Rattle.game_canon.specs.Outcomes.{AreWithin}
-use Rattle.sum_outcome.specs.Players.{options, gain}
+use Rattle.game_players.specs.Players.{options, gain}
 
 -- the tree that is noted for a place
 abbrev pub noted : List Tree → List ℕ → ℕ → Tree

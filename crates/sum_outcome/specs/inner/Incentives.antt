@@ -8,7 +8,7 @@ use Rattle.short_games.specs.Order.{◌≤ᵍ◌}
 use Rattle.game_store.specs.Meaning.{pick}
 use Rattle.short_games.specs.Number.{number_tree}
 use Rattle.short_games.specs.Sum.{◌+ᵍ◌, total}
-use Rattle.sum_outcome.specs.Players.{LosesGame}
+use Rattle.game_players.specs.Players.{LosesGame}
 use Rattle.go_grid.specs.Board.{other}
 use Rattle.short_games.specs.SumLaws.{incentive}
 use Rattle.game_canon.specs.SumComparisons.{AreComparisonsRight}

@@ -11,7 +11,7 @@ use Rattle.short_games.specs.Sum.{◌+ᵍ◌, total}
 use Rattle.short_games.specs.Number.{IsNumberTree, number_tree}
 use Rattle.short_games.specs.TextOrder.{IsCanonicalTree}
 use Rattle.game_store.specs.Meaning.{pick}
-use Rattle.sum_outcome.specs.Players.{options, LosesGame}
+use Rattle.game_players.specs.Players.{options, LosesGame}
 
 -- a canonical tree that is no number's
 abbrev pub IsNonNumber : Tree → Type 0

@@ -1,7 +1,7 @@
 use mir.Syntax.{w64}
 use Rattle.std.proofs.Common.{subst, IfOk}
 use Rattle.std.proofs.lemmas.Int.{to_z-of_z}
-use Rattle.report.specs.CycleAnalysis.{IsCycleMarginText}
+use Rattle.cycle_report.specs.CycleAnalysis.{IsCycleMarginText}
 use Rattle.board_session.specs.inner.Analysing.{ShowsText}
 use Rattle.board_session.proofs.AnalysisLemmas.{text_found}
 use Rattle.board_session.proofs.cycle_analysis.reply_margin.Goals as goal

@@ -3,7 +3,7 @@ use Rattle.std.proofs.Common.{subst, IfOk}
 use Rattle.std.proofs.lemmas.Int.{to_z-of_z}
 use Rattle.fault_words.specs.declared.naming.Naming.TheVariants.{Gtp}
 use Rattle.report.specs.Analysis.{name_on}
-use Rattle.report.specs.CycleAnalysis.{IsCycleMovesText}
+use Rattle.cycle_report.specs.CycleAnalysis.{IsCycleMovesText}
 use Rattle.board_session.specs.inner.Analysing.{ShowsText}
 use Rattle.board_session.proofs.AnalysisLemmas.{text_found}
 use Rattle.board_session.proofs.cycle_analysis.reply_moves.Goals as goal

@@ -2,7 +2,7 @@ use Rattle.std.proofs.Common.{◌↔◌, ◌≤ℤ◌, IsTrue, arith, refl, set,
 use Rattle.short_games.specs.Number.{num}
 use Rattle.short_games.specs.Sum.{◌+ᵍ◌, total}
 use Rattle.game_store.specs.Meaning.{pick}
-use Rattle.sum_outcome.specs.Players.{LosesGame}
+use Rattle.game_players.specs.Players.{LosesGame}
 use Rattle.endgame_solver.specs.SumGame.{balance}
 use Rattle.endgame_solver.proofs.HeldLaws.{small_balance}
 use Rattle.endgame_solver.proofs.AskedLaws.{answer_serves}

@@ -1,6 +1,6 @@
 use Rattle.std.proofs.Common.{◌↔◌, IsTrue, not, subst, sym}
 use Rattle.short_games.specs.Tree.{Tree}
-use Rattle.sum_outcome.specs.Players.{LosesGame}
+use Rattle.game_players.specs.Players.{LosesGame}
 use Rattle.endgame_solver.specs.Thresholds.{BlackWins}
 use Rattle.endgame_solver.proofs.AskedLaws.{loses_unless}
 use Rattle.endgame_solver.proofs.asked.loses_where.Goals as goal

@@ -4,7 +4,7 @@ use Rattle.whole_rules.specs.Purses.{paid_in}
 use Rattle.short_games.specs.Sum.{total}
 use Rattle.game_store.specs.Meaning.{pick}
 use Rattle.go_grid.specs.Board.{other}
-use Rattle.sum_outcome.specs.Players.{LosesGame}
+use Rattle.game_players.specs.Players.{LosesGame}
 use Rattle.endgame_solver.specs.SumGame.{balance}
 use Rattle.endgame_solver.specs.inner.Asked.{AreAnswers}
 use Rattle.endgame_solver.proofs.HeldLaws.{some_edge}

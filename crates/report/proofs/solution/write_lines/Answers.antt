@@ -1,6 +1,6 @@
 use Rattle.std.proofs.Common.{ap, ◌∙◌, ◌++◌, arith, string_bytes, ◌+◌, ◌<◌, subst, sym, take}
 use Rattle.report.specs.Solution.{solved_line}
-use Rattle.report.specs.inner.Solution.{HasLines}
+use Rattle.report.specs.Solution.{HasLines}
 use Rattle.report.proofs.SolutionLaws.{lines_step}
 use Rattle.report.proofs.solution.write_lines.Goals as goal
 

@@ -1,5 +1,5 @@
 use Rattle.std.proofs.Common.{◌*◌, ◌≤◌, take, string_bytes}
-use Rattle.report.specs.inner.Solution.{HasLines}
+use Rattle.report.specs.Solution.{HasLines}
 use Rattle.report.proofs.solution.write_lines.Given as goal
 
 abbrev pub invariant-writing : goal.invariant-writing

@@ -3,7 +3,7 @@ use Rattle.std.proofs.lemmas.Bool.{both_ways}
 use Rattle.go_grid.specs.declared.grid.Colour.{Colour}
 use Rattle.go_grid.specs.Board.{other}
 use Rattle.whole_rules.specs.FirstWinningMove.{IsWinner}
-use Rattle.sum_outcome.specs.Players.{LosesGame}
+use Rattle.game_players.specs.Players.{LosesGame}
 use Rattle.sum_outcome.specs.Sums.{sum_tree}
 use Rattle.endgame_solver.specs.Solved.{ArePresent, Solved, balance_units}
 use Rattle.endgame_solver.proofs.LentLaws.{answers_lent, returned}

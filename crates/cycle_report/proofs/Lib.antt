@@ -1,0 +1,3 @@
+pub mod CycleSolutionLaws
+pub mod CycleValuesLaws
+pub mod CycleAnalysisLaws

@@ -1,0 +1,4 @@
+pub mod CycleSolution
+pub mod CycleValues
+pub mod CycleAnalysis
+pub mod inner

@@ -1,6 +1,0 @@
-use Rattle.std.proofs.Common.{take}
-use Rattle.report.specs.inner.CycleValues.{HasLinesOfEach}
-use Rattle.report.proofs.cycle_values.write_entries.Given as goal
-
-abbrev pub invariant-writing : goal.invariant-writing
-invariant-writing l = HasLinesOfEach l.game.state.board.columns (take l.number l.game.regions) l.fn.text l.text
