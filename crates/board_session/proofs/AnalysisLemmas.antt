@@ -17,17 +17,18 @@ use Rattle.endgame_solver.specs.Solved.{Begun, Solved}
 use Rattle.whole_rules.specs.WholeGame.{Whole}
 use Rattle.report.specs.declared.score.Score.{Score}
 use Rattle.report.specs.Score.{IsScore}
-use Rattle.board_session.specs.declared.topic.Analysis.{Analysis}
-use Rattle.board_session.specs.declared.topic.Analysis.TheVariants.{Game, Stones}
-use Rattle.board_session.specs.declared.topic.Status.{Status}
-use Rattle.board_session.specs.declared.topic.Status.TheVariants as status
-use Rattle.board_session.specs.declared.topic.Topic.TheVariants as topic
-use Rattle.board_session.specs.declared.topic.Topic.{Topic}
+use Rattle.board_orders.specs.declared.topic.Analysis.{Analysis}
+use Rattle.board_orders.specs.declared.topic.Analysis.TheVariants.{Game, Stones}
+use Rattle.board_orders.specs.declared.topic.Status.{Status}
+use Rattle.board_orders.specs.declared.topic.Status.TheVariants as status
+use Rattle.board_orders.specs.declared.topic.Topic.TheVariants as topic
+use Rattle.board_orders.specs.declared.topic.Topic.{Topic}
 use Rattle.board_session.specs.Analysing.{Finds, FindsBy, FindsStones, FindsText, HasStatus, counted_setup, cycle_topic, found, none_found, scoreless, score_finding}
 use Rattle.board_session.specs.Generating.{unsettled_words}
-use Rattle.board_session.specs.Session.{done, finding_said, reply_text, unscored}
-use Rattle.board_session.specs.States.{BoardState, present}
-use Rattle.board_session.specs.Texts.{vertices_text}
+use Rattle.board_orders.specs.Effects.{done, reply_text, unscored}
+use Rattle.board_session.specs.Session.{finding_said}
+use Rattle.board_orders.specs.States.{BoardState, present}
+use Rattle.board_orders.specs.Texts.{vertices_text}
 use Rattle.board_session.specs.inner.Analysing.{IsReported, RepliesBy, RepliesIn, RepliesOn, RepliesStones, RepliesTo, ShowsText}
 
 -- a text that is shown is found

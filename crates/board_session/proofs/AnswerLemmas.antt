@@ -1,6 +1,7 @@
 -- What a session answers.
 use Rattle.std.proofs.Common.{Bool, false, ◌==◌, ◌+◌, ◌≤◌, length, map, ◌≡◌, ◌≢◌, ◌∷◌, ℕ, List, [], arith, inl, inr, refl, sym, ap, ◌∙◌, subst, Option, Ok, Err, Result, IfOk, OnErr}
 use Rattle.std.proofs.lemmas.Bool.{false≢true}
+use Rattle.std.proofs.lemmas.List.{length_push}
 use Rattle.std.specs.Str.{IsUtf8}
 use Rattle.desk_io.specs.Files.{Told, Files, told_file}
 use Rattle.sgf_go.specs.declared.settings.Settings.{Settings}
@@ -13,18 +14,21 @@ use Rattle.gtp_words.specs.Loads.{Fate, Loads}
 use Rattle.gtp_words.specs.Loads.Fate.{failed, made, no_load}
 use Rattle.gtp_words.specs.Words.{AreWords, HasId, cleaned}
 use Rattle.board_session.specs.declared.limits.BoardLimits.{BoardLimits}
-use Rattle.board_session.specs.declared.refusal.Refusal.TheVariants.{CannotLoadFile, SyntaxError, UnknownCommand}
-use Rattle.board_session.specs.declared.topic.Analysis.{Analysis}
+use Rattle.board_orders.specs.declared.refusal.Refusal.TheVariants.{CannotLoadFile, SyntaxError, UnknownCommand}
+use Rattle.board_orders.specs.declared.topic.Analysis.{Analysis}
+use Rattle.board_session.specs.Generating.{Advice, Follows, board_move, chosen, resigned, unopened}
 use Rattle.board_session.specs.inner.Analysing.{IsReported}
-use Rattle.board_session.specs.inner.Doing.{CanTakeUp, IsDone, IsGenerated, IsSuggested}
+use Rattle.board_session.specs.inner.Doing.{CanTakeUp, IsGenerated, IsSuggested}
+use Rattle.board_orders.specs.Doing.{IsDone}
 use Rattle.board_session.specs.inner.Obeying.{IsLoadNoted, IsMet, IsObeyed}
-use Rattle.board_session.specs.Orders.{Asked, Asks, BoardOrder}
-use Rattle.board_session.specs.Orders.BoardOrder.{tell, known, ask, boardsize, clear_board, komi, play, genmove, reg_genmove, analyse, loadsgf, undo, fixed_handicap, free_handicap, quit}
-use Rattle.board_session.specs.Orders.Asked.{something, unknown, misfit}
-use Rattle.board_session.specs.Session.{AnswersWords, Does, Meets, Obeys, Said, TakesFile, done, is_last, refused, reply_text}
-use Rattle.board_session.specs.States.{BoardState}
+use Rattle.board_orders.specs.Orders.{Asked, Asks, BoardOrder}
+use Rattle.board_orders.specs.Orders.BoardOrder.{tell, known, ask, boardsize, clear_board, komi, play, genmove, reg_genmove, analyse, loadsgf, undo, fixed_handicap, free_handicap, quit}
+use Rattle.board_orders.specs.Orders.Asked.{something, unknown, misfit}
+use Rattle.board_session.specs.Session.{AnswersWords, Meets, Obeys, TakesFile, is_last}
+use Rattle.board_orders.specs.Effects.{Does, Said, done, refused, reply_text}
+use Rattle.board_orders.specs.States.{BoardState}
 use Rattle.board_session.specs.Written.{BoardEngine, IsBoardReply}
-use Rattle.board_session.proofs.OrderLemmas.{followed_grown, order_grown}
+use Rattle.board_orders.proofs.OrderLemmas.{order_grown}
 
 -- what was loaded can be taken up
 pub loaded_fits : (told : Told) (settings : Settings) (before now : ℕ) (loading : Loading) → IsLoaded told settings before now loading → CanTakeUp loading
@@ -114,6 +118,12 @@ met_misfit files faults id asked a reply is said = subst (λ x. IsMet files faul
 -- what is answered adds one move at most
 same_grown : (s u : BoardState) → u ≡ s → length u.moves ≤ length s.moves + 1
 same_grown s u is = omega (arith, ap (λ x. length x.moves) is)
+
+followed_grown : (c : Colour) (a : Advice) (s u : BoardState) → Follows c a s u → length u.moves ≤ length s.moves + 1
+followed_grown c (chosen m) s u (b, makes, is) =
+    omega (arith, ap (λ x. length x.moves) is, length_push s.moves (record { colour = c; chosen = board_move m; komi_before = s.komi_halves; after = b }))
+followed_grown c resigned s u same = same_grown s u same
+followed_grown c (unopened words) s u same = same_grown s u same
 
 file_grown : (settings : Settings) (files : Option Files) (file : List ℕ) (fate : Fate) (s u : BoardState) (said : Said) → TakesFile settings files file fate s said u
     → length u.moves ≤ length s.moves + 1

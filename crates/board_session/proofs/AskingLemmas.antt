@@ -1,9 +1,9 @@
 -- Which file a line asks for.
 use Rattle.std.proofs.Common.{refl, None}
 use Rattle.board_session.specs.Asking.{OrderNames}
-use Rattle.board_session.specs.Orders.{BoardOrder}
-use Rattle.board_session.specs.Orders.BoardOrder.{tell, known, ask, boardsize, clear_board, komi, play, genmove, reg_genmove, analyse, loadsgf, undo, fixed_handicap, free_handicap, quit}
-use Rattle.board_session.specs.inner.Doing.{IsPlainOrder}
+use Rattle.board_orders.specs.Orders.{BoardOrder}
+use Rattle.board_orders.specs.Orders.BoardOrder.{tell, known, ask, boardsize, clear_board, komi, play, genmove, reg_genmove, analyse, loadsgf, undo, fixed_handicap, free_handicap, quit}
+use Rattle.board_orders.specs.Doing.{IsPlainOrder}
 
 -- an order that asks for neither a file nor the solver names no file
 pub plain_names : (order : BoardOrder) → IsPlainOrder order → OrderNames order None

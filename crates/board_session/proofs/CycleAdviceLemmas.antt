@@ -16,13 +16,13 @@ use Rattle.engine_player.specs.Played.{BeginsPlay, EnginePlays, Keeping, KeepsNo
 use Rattle.engine_player.proofs.EngineGameLaws.{engine_moves_moved}
 use Rattle.whole_budgets.specs.EnginePlay.{EngineMoves}
 use Rattle.fault_words.proofs.NamedPointLemmas.{lowest_on_board}
-use Rattle.board_session.specs.declared.position.Position.{Position}
+use Rattle.board_orders.specs.declared.position.Position.{Position}
 use Rattle.board_session.specs.Cycles.{AdvisesWith, AdvisesWithCycles, MovesAnew, OpensWithCycles, TellsIn}
 use Rattle.board_session.specs.Generating.{Advice, after_passes, board_move, chosen, komi_after, resigned, setup_of, unopened, unsettled_words}
-use Rattle.board_session.specs.Kept.{IsModest}
-use Rattle.board_session.specs.Positions.{MakesMove}
-use Rattle.board_session.specs.States.{BoardState, present}
-use Rattle.board_session.specs.Tallies.{Tally}
+use Rattle.board_orders.specs.Kept.{IsModest}
+use Rattle.board_orders.specs.Positions.{MakesMove}
+use Rattle.board_orders.specs.States.{BoardState, present}
+use Rattle.board_orders.specs.Tallies.{Tally}
 use Rattle.board_session.specs.inner.Cycles.{IsToldWithCycles, NamesPoint}
 use Rattle.board_session.specs.inner.Generating.{IsAdviceOnBoard, MayFollow}
 use Rattle.board_session.proofs.GeneratingLemmas.{advised_on_board, halved_small, made_on_board, may_follow}

@@ -13,7 +13,7 @@ use Rattle.engine_player.specs.Played.{BeginsPlay}
 use Rattle.board_session.specs.declared.topic.CycleTopic.{CycleTopic}
 use Rattle.board_session.specs.Analysing.{gameless}
 use Rattle.board_session.specs.Cycles.{AreCycleFaultWords}
-use Rattle.board_session.specs.Session.{reply_text, unsolved}
+use Rattle.board_orders.specs.Effects.{reply_text, unsolved}
 use Rattle.board_session.specs.inner.Analysing.{RepliesInWithCycles, RepliesOnWithCycles}
 
 -- a fault keeps a position from a game and from play

@@ -24,14 +24,14 @@ use Rattle.engine_player.specs.declared.player.TheConstants.{MOST_CAPTURES}
 use Rattle.engine_player.specs.Played.{BeginsPlay}
 use Rattle.engine_player.proofs.EngineGameLaws.{engine_moves_lose, engine_moves_moved}
 use Rattle.engine_player.proofs.AlikeLaws.{move_back, opened_purses, winning_alike, wins_alike, with_marks}
-use Rattle.board_session.specs.declared.position.Position.{Position}
+use Rattle.board_orders.specs.declared.position.Position.{Position}
 use Rattle.board_session.specs.Cycles.{AreCycleFaultWords, MovesAnew, OpensNoneWithCycles, OpensWithCycles}
 use Rattle.board_session.specs.CycleLaws.{GameGoesOnWithCycles, OneKindIsToldWithCycles, OpensKosIn, WinIsKeptWithCycles}
 use Rattle.board_session.specs.Generating.{PayFor, chosen, komi_halved, resigned, setup_of, unopened}
-use Rattle.board_session.specs.States.{present}
-use Rattle.board_session.specs.Tallies.{Tally, grown}
+use Rattle.board_orders.specs.States.{present}
+use Rattle.board_orders.specs.Tallies.{Tally, grown}
 use Rattle.board_session.proofs.CycleAdviceLemmas.{anew_legal, opens_so}
-use Rattle.board_session.proofs.KeptLemmas.{after_push}
+use Rattle.board_orders.proofs.KeptLemmas.{after_push}
 use Rattle.board_session.proofs.OpenedLemmas.{OpensSo, halved_on, opened_alike, spent}
 
 -- A move that puts no stone leads to a game of the same board, with the same regions.

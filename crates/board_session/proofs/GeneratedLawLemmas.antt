@@ -22,14 +22,14 @@ use Rattle.endgame_solver.specs.Solved.{Begun, Chooses, HasMove}
 use Rattle.endgame_solver.proofs.BeginLaws.{one_regions}
 use Rattle.fault_words.specs.FaultWords.{AreFaultWords}
 use Rattle.engine_player.proofs.AlikeLaws.{move_back, opened_purses, winning_alike, wins_alike, with_marks}
-use Rattle.board_session.specs.declared.position.BoardMove.TheVariants as made
-use Rattle.board_session.specs.declared.position.Position.{Position}
+use Rattle.board_orders.specs.declared.position.BoardMove.TheVariants as made
+use Rattle.board_orders.specs.declared.position.Position.{Position}
 use Rattle.board_session.specs.GeneratedLaws.{BoardsStaySettled, GameGoesOn, OneKindIsTold, OpensIn, WinIsKept}
 use Rattle.board_session.specs.Generating.{OpensLess, OpensNone, chosen, resigned, unopened, PayFor, komi_halved, setup_of}
-use Rattle.board_session.specs.States.{present}
-use Rattle.board_session.specs.Tallies.{Tally, grown}
+use Rattle.board_orders.specs.States.{present}
+use Rattle.board_orders.specs.Tallies.{Tally, grown}
 use Rattle.board_session.proofs.GeneratingLemmas.{chosen_legal}
-use Rattle.board_session.proofs.KeptLemmas.{after_push}
+use Rattle.board_orders.proofs.KeptLemmas.{after_push}
 use Rattle.board_session.proofs.OpenedLemmas.{OpensSo, halved_on, opened_alike, spent}
 use Rattle.board_session.proofs.SettledLemmas.{placed_declares, placed_settled}
 

@@ -17,14 +17,14 @@ use Rattle.whole_rules.specs.Opening.{komi_token}
 use Rattle.whole_rules.specs.WholeGame.{IsLegal, Whole}
 use Rattle.endgame_solver.specs.Limits.{Limits}
 use Rattle.endgame_solver.specs.Solved.{Chooses, IsPlayable}
-use Rattle.board_session.specs.declared.position.BoardMove.{BoardMove}
-use Rattle.board_session.specs.declared.position.BoardMove.TheVariants.{Stone, Pass, Half}
-use Rattle.board_session.specs.declared.position.Position.{Position}
+use Rattle.board_orders.specs.declared.position.BoardMove.{BoardMove}
+use Rattle.board_orders.specs.declared.position.BoardMove.TheVariants.{Stone, Pass, Half}
+use Rattle.board_orders.specs.declared.position.Position.{Position}
 use Rattle.board_session.specs.Generating.{Advice, Advises, AdvisesIn, OpensLess, board_move, chosen, komi_after, komi_halved, resigned, setup_of, unopened}
-use Rattle.board_session.specs.Kept.{IsOnBoard, IsModest}
-use Rattle.board_session.specs.Positions.{IsIllegal, MakesMove}
-use Rattle.board_session.specs.States.{BoardState, present}
-use Rattle.board_session.specs.Tallies.{Tally, grown}
+use Rattle.board_orders.specs.Kept.{IsOnBoard, IsModest}
+use Rattle.board_orders.specs.Positions.{IsIllegal, MakesMove}
+use Rattle.board_orders.specs.States.{BoardState, present}
+use Rattle.board_orders.specs.Tallies.{Tally, grown}
 use Rattle.board_session.specs.inner.Generating.{IsAdviceOnBoard, IsTold, MayFollow, MayMake}
 
 -- what is told in a game that begins so is told in the position that opens it

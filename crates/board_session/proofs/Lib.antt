@@ -1,13 +1,7 @@
-pub mod NameLemmas
-pub mod TextLemmas
-pub mod KeptLemmas
-pub mod OrderLemmas
-pub mod RangeLemmas
 pub mod AnswerLemmas
 pub mod AskingLemmas
 pub mod StepLemmas
 pub mod StandingLemmas
-pub mod HandicapLemmas
 pub mod GeneratingLemmas
 pub mod OpenedLemmas
 pub mod GeneratedLawLemmas
@@ -16,4 +10,3 @@ pub mod CycleLawLemmas
 pub mod SettledLemmas
 pub mod AnalysisLemmas
 pub mod CycleAnalysisLemmas
-pub mod ArgumentLemmas

@@ -16,9 +16,9 @@ use Rattle.whole_rules.specs.Purses.{halved, paid_out, purse}
 use Rattle.whole_rules.specs.WholeGame.{IsMove, Whole}
 use Rattle.endgame_solver.specs.Solved.{OpensAs}
 use Rattle.engine_player.proofs.AlikeLaws.{AreMarkedAlike, opened_purses, with_marks}
-use Rattle.board_session.specs.declared.position.Position.{Position}
+use Rattle.board_orders.specs.declared.position.Position.{Position}
 use Rattle.board_session.specs.Generating.{PayFor, after_passes, komi_halved, less_passes, setup_of}
-use Rattle.board_session.specs.Tallies.{Tally, grown}
+use Rattle.board_orders.specs.Tallies.{Tally, grown}
 
 -- a pass more
 less_more : (c : Colour) (p : Tally) (m : Purses) → paid_out c (less_passes p m) ≡ less_passes (grown c 1 p) m

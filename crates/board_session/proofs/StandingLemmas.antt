@@ -1,18 +1,18 @@
 -- The position of a state is that of its setup and its moves.
 use Rattle.std.proofs.Common.{ℕ, ◌≡◌, ◌++◌, ◌∷◌, List, [], inl, inr, sym, subst, Option, Some, None}
 use Rattle.go_grid.specs.declared.grid.Colour.{Colour}
-use Rattle.board_session.specs.declared.position.BoardMove.{BoardMove}
-use Rattle.board_session.specs.declared.position.MadeMove.{MadeMove}
-use Rattle.board_session.specs.declared.position.Position.{Position}
-use Rattle.board_session.specs.declared.refusal.Refusal.{Refusal}
+use Rattle.board_orders.specs.declared.position.BoardMove.{BoardMove}
+use Rattle.board_orders.specs.declared.position.MadeMove.{MadeMove}
+use Rattle.board_orders.specs.declared.position.Position.{Position}
+use Rattle.board_orders.specs.declared.refusal.Refusal.{Refusal}
 use Rattle.board_session.specs.Generating.{Advice, Follows, board_move, chosen, resigned, unopened}
 use Rattle.board_session.specs.Laws.{AreMade, MovesStand}
 use Rattle.gtp_words.specs.Loads.Fate.{failed, made as loaded, no_load}
-use Rattle.board_session.specs.Orders.{BoardOrder}
-use Rattle.board_session.specs.Orders.BoardOrder.{tell, known, ask, boardsize, clear_board, komi, play, genmove, reg_genmove, analyse, loadsgf, undo, fixed_handicap, free_handicap, quit}
-use Rattle.board_session.specs.Positions.{MakesMove}
-use Rattle.board_session.specs.Session.{Does, PlaysMove, Said, SetsOut}
-use Rattle.board_session.specs.States.{BoardState, after_moves}
+use Rattle.board_orders.specs.Orders.{BoardOrder}
+use Rattle.board_orders.specs.Orders.BoardOrder.{tell, known, ask, boardsize, clear_board, komi, play, genmove, reg_genmove, analyse, loadsgf, undo, fixed_handicap, free_handicap, quit}
+use Rattle.board_orders.specs.Positions.{MakesMove}
+use Rattle.board_orders.specs.Effects.{Does, PlaysMove, Said, SetsOut}
+use Rattle.board_orders.specs.States.{BoardState, after_moves}
 
 -- a move more
 made_push : (a : Position) (moves : List MadeMove) (m : MadeMove) → AreMade a moves → MakesMove m.colour m.chosen (after_moves a moves) m.after → AreMade a (moves ++ m ∷ [])

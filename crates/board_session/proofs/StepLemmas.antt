@@ -5,8 +5,8 @@ use Rattle.region_cut.specs.Cut.{AreRegionsOfPlay}
 use Rattle.endgame_solver.specs.Faults.{most_steps}
 use Rattle.gtp_words.specs.Loads.{Loads}
 use Rattle.board_session.specs.declared.limits.BoardLimits.{BoardLimits}
-use Rattle.board_session.specs.Orders.{BoardOrder}
-use Rattle.board_session.specs.States.{BoardState, present}
+use Rattle.board_orders.specs.Orders.{BoardOrder}
+use Rattle.board_orders.specs.States.{BoardState, present}
 use Rattle.board_session.specs.Steps.{OrderSolves, SolvesWithin}
 use Rattle.board_session.specs.Written.{BoardEngine}
 

@@ -19,20 +19,20 @@ use Rattle.report.specs.Analysis.{IsLineText, IsMarginText, IsMovesText, name_on
 use Rattle.cycle_report.specs.CycleAnalysis.{IsCycleMarginText, IsCycleMovesText}
 use Rattle.report.specs.Score.{IsScore}
 use Rattle.report.specs.TopStones.{IsTopText}
-use Rattle.board_session.specs.declared.position.Position.{Position}
-use Rattle.board_session.specs.declared.topic.Analysis.{Analysis}
-use Rattle.board_session.specs.declared.topic.Analysis.TheVariants.{Game, Stones}
+use Rattle.board_orders.specs.declared.position.Position.{Position}
+use Rattle.board_orders.specs.declared.topic.Analysis.{Analysis}
+use Rattle.board_orders.specs.declared.topic.Analysis.TheVariants.{Game, Stones}
 use Rattle.board_session.specs.declared.topic.CycleTopic.{CycleTopic}
 use Rattle.board_session.specs.declared.topic.CycleTopic.TheVariants as cycles
-use Rattle.board_session.specs.declared.topic.Status.{Status}
-use Rattle.board_session.specs.declared.topic.Status.TheVariants as status
-use Rattle.board_session.specs.declared.topic.Topic.{Topic}
-use Rattle.board_session.specs.declared.topic.Topic.TheVariants as topic
+use Rattle.board_orders.specs.declared.topic.Status.{Status}
+use Rattle.board_orders.specs.declared.topic.Status.TheVariants as status
+use Rattle.board_orders.specs.declared.topic.Topic.{Topic}
+use Rattle.board_orders.specs.declared.topic.Topic.TheVariants as topic
 use Rattle.board_session.specs.Cycles.{IsSteadyOpening, OpensNoneWithCycles}
 use Rattle.board_session.specs.Generating.{OpensNone, unsettled_words}
-use Rattle.board_session.specs.States.{BoardState, present}
-use Rattle.board_session.specs.Tallies.{Tally}
-use Rattle.board_session.specs.Texts.{vertices_text}
+use Rattle.board_orders.specs.States.{BoardState, present}
+use Rattle.board_orders.specs.Tallies.{Tally}
+use Rattle.board_orders.specs.Texts.{vertices_text}
 
 -- what an analysis finds: a text, or in words why the position opens no game, or why it has no score
 pub data Finding : Type 0 where

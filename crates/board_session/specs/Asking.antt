@@ -2,9 +2,9 @@
 use Rattle.std.specs.Prelude.{◌≡◌, ◌⊎◌, ℕ, List, Option, Some, None}
 use Rattle.std.specs.Str.{IsUtf8}
 use Rattle.gtp_words.specs.Asking.{LineName, Naming}
-use Rattle.board_session.specs.Orders.{Asked, Asks, BoardOrder}
-use Rattle.board_session.specs.Orders.Asked.{something}
-use Rattle.board_session.specs.Orders.BoardOrder.{loadsgf}
+use Rattle.board_orders.specs.Orders.{Asked, Asks, BoardOrder}
+use Rattle.board_orders.specs.Orders.Asked.{something}
+use Rattle.board_orders.specs.Orders.BoardOrder.{loadsgf}
 
 -- the name in an order to load a file, where it is UTF-8; no other order names one
 abbrev pub OrderNames : BoardOrder → Option (List ℕ) → Type 0

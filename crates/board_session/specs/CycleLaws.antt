@@ -9,7 +9,7 @@ use Rattle.endgame_solver.specs.Limits.{Limits}
 use Rattle.board_session.specs.Cycles.{OpensWithCycles, TellsIn}
 use Rattle.board_session.specs.GeneratedLaws.{AreOneKind, PutsNone}
 use Rattle.board_session.specs.Generating.{Advice, MakesChosen, board_move, chosen, setup_of}
-use Rattle.board_session.specs.States.{BoardState, present}
+use Rattle.board_orders.specs.States.{BoardState, present}
 
 -- the game that the state opens for the colour to move, where kos can arise
 abbrev pub OpensKosIn : Limits → BoardState → Colour → Whole → Type 0

@@ -18,8 +18,8 @@ use Rattle.engine_player.specs.declared.player.TheConstants.{MOST_CAPTURES}
 use Rattle.engine_player.specs.Played.{BeginsPlay}
 use Rattle.fault_words.specs.FaultWords.{form_words, points_words, positions_words}
 use Rattle.board_session.specs.Generating.{Advice, Advises, PayFor, after_passes, chosen, resigned, setup_of, unopened, unsettled_words}
-use Rattle.board_session.specs.States.{BoardState, present}
-use Rattle.board_session.specs.Tallies.{Tally}
+use Rattle.board_orders.specs.States.{BoardState, present}
+use Rattle.board_orders.specs.Tallies.{Tally}
 
 -- the regions of play of the position are all steady within the limits, and the state opens it without a tax
 pub record IsSteadyOpening (limits : Limits) (setup : Setup) (start : Whole) : Type 0 where

@@ -7,11 +7,11 @@ use Rattle.whole_rules.specs.declared.states.Move.TheVariants.{Stone, Spend, Hal
 use Rattle.whole_rules.specs.PlainRecursion.{MoverLoses, MoverWins}
 use Rattle.whole_rules.specs.WholeGame.{IsMove, Leads, Whole}
 use Rattle.endgame_solver.specs.Limits.{Limits}
-use Rattle.board_session.specs.declared.position.BoardMove.{BoardMove}
-use Rattle.board_session.specs.declared.position.Position.{Position}
+use Rattle.board_orders.specs.declared.position.BoardMove.{BoardMove}
+use Rattle.board_orders.specs.declared.position.Position.{Position}
 use Rattle.board_session.specs.Generating.{Advice, AdvisesIn, MakesChosen, OpensLess, board_move, chosen, resigned, setup_of, unopened}
-use Rattle.board_session.specs.Positions.{MakesMove}
-use Rattle.board_session.specs.States.{BoardState, present}
+use Rattle.board_orders.specs.Positions.{MakesMove}
+use Rattle.board_orders.specs.States.{BoardState, present}
 
 -- the game that the state opens for the colour to move
 abbrev pub OpensIn : Limits → BoardState → Colour → Whole → Type 0

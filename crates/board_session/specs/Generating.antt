@@ -15,12 +15,12 @@ use Rattle.endgame_solver.specs.declared.faults.SolveError.{SolveError}
 use Rattle.endgame_solver.specs.Limits.{Limits}
 use Rattle.endgame_solver.specs.Solved.{Begun, Chooses, HasMove, IsPlayable}
 use Rattle.fault_words.specs.FaultWords.{AreFaultWords}
-use Rattle.board_session.specs.declared.position.BoardMove.{BoardMove}
-use Rattle.board_session.specs.declared.position.BoardMove.TheVariants.{Stone, Pass, Half}
-use Rattle.board_session.specs.declared.position.Position.{Position}
-use Rattle.board_session.specs.Positions.{MakesMove}
-use Rattle.board_session.specs.States.{BoardState, present, with_move}
-use Rattle.board_session.specs.Tallies.{Tally}
+use Rattle.board_orders.specs.declared.position.BoardMove.{BoardMove}
+use Rattle.board_orders.specs.declared.position.BoardMove.TheVariants.{Stone, Pass, Half}
+use Rattle.board_orders.specs.declared.position.Position.{Position}
+use Rattle.board_orders.specs.Positions.{MakesMove}
+use Rattle.board_orders.specs.States.{BoardState, present, with_move}
+use Rattle.board_orders.specs.Tallies.{Tally}
 
 -- the position with the komi and the colour to move, as one that opens a game
 abbrev pub setup_of : Position → ℤ → Colour → Setup

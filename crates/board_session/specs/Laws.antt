@@ -3,12 +3,13 @@ use Rattle.std.specs.Prelude.{List, [], ◌∷◌, Option}
 use Rattle.desk_io.specs.Files.{Files}
 use Rattle.gtp_words.specs.Loads.{Fate}
 use Rattle.board_session.specs.declared.limits.BoardLimits.{BoardLimits}
-use Rattle.board_session.specs.declared.position.MadeMove.{MadeMove}
-use Rattle.board_session.specs.declared.position.Position.{Position}
-use Rattle.board_session.specs.Orders.{BoardOrder}
-use Rattle.board_session.specs.Positions.{MakesMove}
-use Rattle.board_session.specs.Session.{Obeys, Said}
-use Rattle.board_session.specs.States.{BoardState}
+use Rattle.board_orders.specs.declared.position.MadeMove.{MadeMove}
+use Rattle.board_orders.specs.declared.position.Position.{Position}
+use Rattle.board_orders.specs.Orders.{BoardOrder}
+use Rattle.board_orders.specs.Positions.{MakesMove}
+use Rattle.board_session.specs.Session.{Obeys}
+use Rattle.board_orders.specs.Effects.{Said}
+use Rattle.board_orders.specs.States.{BoardState}
 
 -- the moves are made one after the other, from this position on
 abbrev pub AreMade : Position → List MadeMove → Type 0

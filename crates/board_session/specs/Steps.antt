@@ -6,10 +6,10 @@ use Rattle.endgame_solver.specs.Faults.{most_steps}
 use Rattle.gtp_words.specs.Steps.{LineSteps}
 use Rattle.gtp_words.specs.Words.{LineAsks}
 use Rattle.board_session.specs.declared.limits.BoardLimits.{BoardLimits}
-use Rattle.board_session.specs.Orders.{Asked, Asks, BoardOrder}
-use Rattle.board_session.specs.Orders.Asked.{something}
-use Rattle.board_session.specs.Orders.BoardOrder.{analyse, genmove, reg_genmove}
-use Rattle.board_session.specs.States.{BoardState, present}
+use Rattle.board_orders.specs.Orders.{Asked, Asks, BoardOrder}
+use Rattle.board_orders.specs.Orders.Asked.{something}
+use Rattle.board_orders.specs.Orders.BoardOrder.{analyse, genmove, reg_genmove}
+use Rattle.board_orders.specs.States.{BoardState, present}
 
 -- the order asks the solver
 abbrev pub OrderSolves : BoardOrder → Type 0

@@ -5,8 +5,8 @@ use Rattle.desk_io.specs.Files.{Files}
 use Rattle.gtp_words.specs.Loads.{Loads, unloaded}
 use Rattle.gtp_words.specs.Sessions.{IsReply, Loaded}
 use Rattle.board_session.specs.declared.limits.BoardLimits.{BoardLimits}
-use Rattle.board_session.specs.Session.{AnswersLine, first_state}
-use Rattle.board_session.specs.States.{BoardState}
+use Rattle.board_session.specs.Session.{AnswersLine}
+use Rattle.board_orders.specs.States.{first_state, BoardState}
 
 -- what a board engine keeps: its limits, the state of its session, and the loads so far
 pub record BoardEngine : Type 0 where

@@ -3,7 +3,5 @@ pub mod Generating
 pub mod Cycles
 pub mod Doing
 pub mod Obeying
-pub mod Viewed
 pub mod Analysing
-pub mod Naming
 pub mod Settling

@@ -9,7 +9,7 @@ ghost use Rattle.board_session.specs.Generating.{Advises, PayFor, after_passes, 
 ghost use Rattle.board_session.specs.inner.Generating.{IsTold, advice_of};
 
 use crate::cycle_advice::open_with_cycles;
-use crate::position::{BoardMove, Tally};
+use board_orders::{BoardMove, Tally};
 use endgame_solver::{Limits, Solved};
 use fault_words::{Naming, fault_words};
 use go_grid::{Board, Colour, Point};

@@ -9,17 +9,17 @@ ghost use Rattle.region_cut.specs.Cut.{AreRegionsOfPlay};
 ghost use Rattle.endgame_solver.specs.Faults.{most_steps};
 ghost use Rattle.report.specs.Score.{CanBeTold};
 ghost use Rattle.board_session.specs.Analysing.{IsShown, IsSpace, counted_setup, cycle_topic, found, gameless, none_found, score_finding, score_text};
-ghost use Rattle.board_session.specs.Session.{finding_said, reply_text};
-ghost use Rattle.board_session.specs.States.{present};
+ghost use Rattle.board_session.specs.Session.{finding_said};
+ghost use Rattle.board_orders.specs.Effects.{reply_text};
+ghost use Rattle.board_orders.specs.States.{present};
 ghost use Rattle.board_session.specs.inner.Analysing.{IsReported, RepliesBy, RepliesIn, RepliesOn, ShowsText};
 ghost use Rattle.board_session.specs.inner.Settling.{SettlesAs};
 
 use crate::cycle_analysis::reply_with_cycles;
-use crate::refusal::{accept, refuse_unscored, refuse_unsolved};
-use crate::session::BoardSession;
 use crate::settling::{Settling, settle};
 use crate::statuses::report_stones;
-use crate::topic::{Analysis, Topic, cycle_topic};
+use crate::topic::cycle_topic;
+use board_orders::{Analysis, BoardSession, Topic, accept, refuse_unscored, refuse_unsolved};
 use board_words::write_komi_word;
 use endgame_solver::{Limits, Solved};
 use fault_words::{Naming, fault_words};
@@ -263,52 +263,54 @@ fn reply_by<L: Ledger>(
     }
 }
 
-impl BoardSession {
-    /// What the board comes to with the colour to move, where each pass has handed the other colour a prisoner.
-    fn settle_counted(&self, alloc: Global, colour: Colour) -> Result<Settling, AllocError>
-        requires few { length self.now.moves < MOST_LINES }
-        ensures { IfOk result
-            (SettlesAs (counted_setup (present self.now) self.now.komi_halves colour)) }
-    {
-        let position = self.present();
-        let (prisoners, passes) = (position.prisoners, position.passes);
-        let black = prisoners.of(Colour::Black) + passes.of(Colour::White);
-        let white = prisoners.of(Colour::White) + passes.of(Colour::Black);
-        settle(
-            alloc,
-            &position.board,
-            black,
-            white,
-            self.komi_halves(),
-            colour,
-        )
-    }
+/// What the board comes to with the colour to move, where each pass has handed the other colour a prisoner.
+fn settle_counted(
+    alloc: Global,
+    session: &BoardSession,
+    colour: Colour,
+) -> Result<Settling, AllocError>
+    requires few { length session.now.moves < MOST_LINES }
+    ensures { IfOk result
+        (SettlesAs (counted_setup (present session.now) session.now.komi_halves colour)) }
+{
+    let position = session.present();
+    let (prisoners, passes) = (position.prisoners, position.passes);
+    let black = prisoners.of(Colour::Black) + passes.of(Colour::White);
+    let white = prisoners.of(Colour::White) + passes.of(Colour::Black);
+    settle(
+        alloc,
+        &position.board,
+        black,
+        white,
+        session.komi_halves(),
+        colour,
+    )
+}
 
-    /// The reply to an analysis of the present position.
-    pub(crate) fn report<L: Ledger>(
-        &self,
-        id: &[u8],
-        analysis: Analysis,
-        limits: &Limits,
-        cycles: bool,
-        steps: &mut Steps<L>,
-    ) -> Result<ItemList<u8>, AllocError>
-        requires few { length self.now.moves < MOST_LINES }
-        ensures reported { IfOk result (IsReported cycles limits.now analysis id.now
-            self.now) }
-        ensures steps { (regions : List Region)
-            → AreRegionsOfPlay (present self.now).board regions
-            → steps.new ≤ steps.old + most_steps limits.now regions }
-    {
-        let alloc = self.allocator();
-        match analysis {
-            Analysis::Game(topic, colour) => match self.settle_counted(alloc, colour)? {
-                Settling::Position(setup) => {
-                    reply_by(alloc, id, topic, &setup, limits, cycles, steps)
-                }
-                Settling::Unsettled(words) => refuse_topic(alloc, id, topic, &words),
-            },
-            Analysis::Stones(status) => report_stones(alloc, id, &self.present().board, status),
-        }
+/// The reply to an analysis of the present position.
+pub(crate) fn analyse<L: Ledger>(
+    session: &BoardSession,
+    id: &[u8],
+    analysis: Analysis,
+    limits: &Limits,
+    cycles: bool,
+    steps: &mut Steps<L>,
+) -> Result<ItemList<u8>, AllocError>
+    requires few { length session.now.moves < MOST_LINES }
+    ensures reported { IfOk result (IsReported cycles limits.now analysis id.now
+        session.now) }
+    ensures steps { (regions : List Region)
+        → AreRegionsOfPlay (present session.now).board regions
+        → steps.new ≤ steps.old + most_steps limits.now regions }
+{
+    let alloc = session.allocator();
+    match analysis {
+        Analysis::Game(topic, colour) => match settle_counted(alloc, session, colour)? {
+            Settling::Position(setup) => {
+                reply_by(alloc, id, topic, &setup, limits, cycles, steps)
+            }
+            Settling::Unsettled(words) => refuse_topic(alloc, id, topic, &words),
+        },
+        Analysis::Stones(status) => report_stones(alloc, id, &session.present().board, status),
     }
 }

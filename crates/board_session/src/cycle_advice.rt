@@ -12,7 +12,7 @@ ghost use Rattle.board_session.specs.inner.Cycles.{IsToldWithCycles, NamesPoint}
 ghost use Rattle.board_session.specs.inner.Generating.{advice_of};
 
 use crate::advice::{Advice, pay};
-use crate::position::Tally;
+use board_orders::Tally;
 use cycle_solver::CycleError;
 use endgame_solver::Limits;
 use engine_player::{CyclePlayer, MOST_CAPTURES};

@@ -9,8 +9,8 @@ ghost use Rattle.board_session.specs.inner.Analysing.{RepliesInWithCycles, Repli
 
 use crate::analysis::show;
 use crate::cycle_advice::words_of;
-use crate::refusal::refuse_unsolved;
 use crate::topic::CycleTopic;
+use board_orders::refuse_unsolved;
 use cycle_report::{cycle_margin_text, cycle_moves_text};
 use cycle_solver::CycleGame;
 use endgame_solver::Limits;

@@ -5,19 +5,20 @@ ghost use Rattle.desk_io.specs.declared.lines.TheConstants.{MOST_LINES};
 ghost use Rattle.gtp_words.specs.Asking.{AsksBy};
 ghost use Rattle.gtp_words.specs.declared.loading.Loading.TheVariants.{Position};
 ghost use Rattle.board_session.specs.Asking.{AskedNames, LineNames, OrderNames};
-ghost use Rattle.board_session.specs.Orders.Asked.{something};
-ghost use Rattle.board_session.specs.Orders.BoardOrder.{loadsgf};
+ghost use Rattle.board_orders.specs.Orders.Asked.{something};
+ghost use Rattle.board_orders.specs.Orders.BoardOrder.{loadsgf};
 ghost use Rattle.board_session.specs.Session.{is_last};
 ghost use Rattle.board_session.specs.Steps.{AreLineSteps, AskToSolve, OrderSolves, SolvesWithin};
 ghost use Rattle.board_session.specs.Written.{IsBoardReply, unused};
-ghost use Rattle.board_session.specs.inner.Doing.{AsksInRange, CanTakeUp, HasKomiInRange};
+ghost use Rattle.board_orders.specs.Doing.{AsksInRange, HasKomiInRange};
+ghost use Rattle.board_session.specs.inner.Doing.{CanTakeUp};
 ghost use Rattle.board_session.specs.inner.Obeying.{IsLoadNoted, IsMet, IsObeyed};
-ghost use Rattle.board_session.specs.inner.Viewed.{asked_of, order_of};
+ghost use Rattle.board_orders.specs.Viewed.{asked_of, order_of};
 
+use crate::analysis::analyse;
+use crate::generating::{generate, suggest};
 use crate::limits::BoardLimits;
-use crate::refusal::{Refusal, accept, refuse};
-use crate::request::{Asked, Request, read_asked};
-use crate::session::BoardSession;
+use board_orders::{Asked, BoardSession, Refusal, Request, accept, read_asked, refuse};
 use board_words::colour_word;
 use desk_io::Shelf;
 use gtp_words::{Answer, Loading, Loads, MOST_LOADS, clean, load, split, take_id};
@@ -162,16 +163,34 @@ impl BoardEngine {
         match request {
             Request::LoadSgf(file, after) => self.load_file(id, file, after, shelf),
             Request::GenMove(colour) => {
-                self.session
-                    .generate(id, colour, &self.limits.game, self.limits.cycles, steps)
+                generate(
+                    &mut self.session,
+                    id,
+                    colour,
+                    &self.limits.game,
+                    self.limits.cycles,
+                    steps,
+                )
             }
             Request::RegGenMove(colour) => {
-                self.session
-                    .suggest(id, colour, &self.limits.game, self.limits.cycles, steps)
+                suggest(
+                    &self.session,
+                    id,
+                    colour,
+                    &self.limits.game,
+                    self.limits.cycles,
+                    steps,
+                )
             }
             Request::Analyse(analysis) => {
-                self.session
-                    .report(id, analysis, &self.limits.game, self.limits.cycles, steps)
+                analyse(
+                    &self.session,
+                    id,
+                    analysis,
+                    &self.limits.game,
+                    self.limits.cycles,
+                    steps,
+                )
             }
             plain => self.session.obey(id, plain),
         }

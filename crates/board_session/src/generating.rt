@@ -7,19 +7,17 @@ ghost use Rattle.region_cut.specs.Cut.{AreRegionsOfPlay};
 ghost use Rattle.endgame_solver.specs.Faults.{most_steps};
 ghost use Rattle.board_session.specs.Cycles.{TellsIn};
 ghost use Rattle.board_session.specs.Generating.{Follows, MakesChosen, komi_after, setup_of};
-ghost use Rattle.board_session.specs.Kept.{IsModest};
-ghost use Rattle.board_session.specs.Session.{advice_said, reply_text};
-ghost use Rattle.board_session.specs.States.{present};
+ghost use Rattle.board_orders.specs.Kept.{IsModest};
+ghost use Rattle.board_session.specs.Session.{advice_said};
+ghost use Rattle.board_orders.specs.Effects.{reply_text};
+ghost use Rattle.board_orders.specs.States.{present};
 ghost use Rattle.board_session.specs.inner.Doing.{IsGenerated, IsSuggested};
 ghost use Rattle.board_session.specs.inner.Settling.{SettlesAs};
 ghost use Rattle.board_session.specs.inner.Generating.{IsAdviceOnBoard, MayFollow, MayMake, advice_of};
 
 use crate::advice::{Advice, advise, board_move};
-use crate::position::BoardMove;
-use crate::refusal::{accept, refuse_unsolved};
-use crate::session::BoardSession;
 use crate::settling::{Settling, settle};
-use crate::texts::move_text;
+use board_orders::{BoardMove, BoardSession, accept, move_text, refuse_unsolved};
 use endgame_solver::Limits;
 use go_grid::{Colour, Size};
 use item_list::ItemList;
@@ -61,129 +59,135 @@ fn reply_to(
     }
 }
 
-impl BoardSession {
-    /// What the board comes to with the colour to move.
-    fn settle(&self, alloc: Global, colour: Colour) -> Result<Settling, AllocError>
-        requires few { length self.now.moves < MOST_LINES }
-        ensures settled { IfOk result
-            (SettlesAs (setup_of (present self.now) self.now.komi_halves colour)) }
-        ensures komi { IsModest self.now.komi_halves }
-    {
-        let position = self.present();
-        let black = position.prisoners.of(Colour::Black);
-        let white = position.prisoners.of(Colour::White);
-        settle(
-            alloc,
-            &position.board,
-            black,
-            white,
-            self.komi_halves(),
-            colour,
-        )
-    }
+/// What the board comes to with the colour to move.
+fn settle_present(
+    alloc: Global,
+    session: &BoardSession,
+    colour: Colour,
+) -> Result<Settling, AllocError>
+    requires few { length session.now.moves < MOST_LINES }
+    ensures settled { IfOk result
+        (SettlesAs (setup_of (present session.now) session.now.komi_halves colour)) }
+    ensures komi { IsModest session.now.komi_halves }
+{
+    let position = session.present();
+    let black = position.prisoners.of(Colour::Black);
+    let white = position.prisoners.of(Colour::White);
+    settle(
+        alloc,
+        &position.board,
+        black,
+        white,
+        session.komi_halves(),
+        colour,
+    )
+}
 
-    /// What the colour is told.
-    fn advise<L: Ledger>(
-        &self,
-        alloc: Global,
-        colour: Colour,
-        limits: &Limits,
-        cycles: bool,
-        steps: &mut Steps<L>,
-    ) -> Result<Advice, AllocError>
-        requires few { length self.now.moves < MOST_LINES }
-        ensures advised { IfOk result (λ advice. TellsIn cycles limits.now self.now colour
-            (advice_of advice)) }
-        ensures may { IfOk result (λ advice. MayFollow colour (advice_of advice) self.now) }
-        ensures steps { (regions : List Region)
-            → AreRegionsOfPlay (present self.now).board regions
-            → steps.new ≤ steps.old + most_steps limits.now regions }
-    {
-        match self.settle(alloc, colour)? {
-            Settling::Position(setup) => {
-                let passes = self.present().passes;
-                advise(alloc, &setup, passes, limits, cycles, steps)
-            }
-            Settling::Unsettled(words) => Ok(Advice::Unopened(words)),
+/// What the colour is told.
+fn advise_in<L: Ledger>(
+    alloc: Global,
+    session: &BoardSession,
+    colour: Colour,
+    limits: &Limits,
+    cycles: bool,
+    steps: &mut Steps<L>,
+) -> Result<Advice, AllocError>
+    requires few { length session.now.moves < MOST_LINES }
+    ensures advised { IfOk result (λ advice. TellsIn cycles limits.now session.now colour
+        (advice_of advice)) }
+    ensures may { IfOk result (λ advice. MayFollow colour (advice_of advice) session.now) }
+    ensures steps { (regions : List Region)
+        → AreRegionsOfPlay (present session.now).board regions
+        → steps.new ≤ steps.old + most_steps limits.now regions }
+{
+    match settle_present(alloc, session, colour)? {
+        Settling::Position(setup) => {
+            let passes = session.present().passes;
+            advise(alloc, &setup, passes, limits, cycles, steps)
         }
+        Settling::Unsettled(words) => Ok(Advice::Unopened(words)),
     }
+}
 
-    /// Makes a move of the colour that may be made, with the komi after it.
-    fn make_chosen(&mut self, colour: Colour, chosen: BoardMove) -> Result<(), AllocError>
-        requires few { length self.old.moves < MOST_LINES }
-        requires may { MayMake colour chosen self.old }
-        requires komi { IsModest (komi_after colour chosen self.old.komi_halves) }
-        ensures made { OnOk result (MakesChosen colour chosen self.old self.new) }
-        ensures same { OnErr result (self.new ≡ self.old) }
-    {
-        let halves = komi_after(colour, &chosen, self.komi_halves());
-        let _size = self.present().board.size();
-        let Some(made) = self.made(colour, chosen)? else {
-            // It may be made.
-            unreachable!()
-        };
-        self.add(made)?;
-        self.put_komi(halves);
-        Ok(())
-    }
+/// Makes a move of the colour that may be made, with the komi after it.
+fn make_chosen(
+    session: &mut BoardSession,
+    colour: Colour,
+    chosen: BoardMove,
+) -> Result<(), AllocError>
+    requires few { length session.old.moves < MOST_LINES }
+    requires may { MayMake colour chosen session.old }
+    requires komi { IsModest (komi_after colour chosen session.old.komi_halves) }
+    ensures made { OnOk result (MakesChosen colour chosen session.old session.new) }
+    ensures same { OnErr result (session.new ≡ session.old) }
+{
+    let halves = komi_after(colour, &chosen, session.komi_halves());
+    let _size = session.present().board.size();
+    let Some(made) = session.made(colour, chosen)? else {
+        // It may be made.
+        unreachable!()
+    };
+    session.add(made)?;
+    session.put_komi(halves);
+    Ok(())
+}
 
-    /// Makes the move that the colour is told, if it is told one.
-    fn follow(&mut self, colour: Colour, advice: &Advice) -> Result<(), AllocError>
-        requires few { length self.old.moves < MOST_LINES }
-        requires may { MayFollow colour (advice_of advice.now) self.old }
-        ensures followed { OnOk result (Follows colour (advice_of advice.now) self.old self.new) }
-        ensures same { OnErr result (self.new ≡ self.old) }
-    {
-        match advice {
-            Advice::Chosen(chosen) => self.make_chosen(colour, board_move(*chosen)),
-            Advice::Resigned => Ok(()),
-            Advice::Unopened(_) => Ok(()),
-        }
+/// Makes the move that the colour is told, if it is told one.
+fn follow(session: &mut BoardSession, colour: Colour, advice: &Advice) -> Result<(), AllocError>
+    requires few { length session.old.moves < MOST_LINES }
+    requires may { MayFollow colour (advice_of advice.now) session.old }
+    ensures followed { OnOk result (Follows colour (advice_of advice.now) session.old session.new) }
+    ensures same { OnErr result (session.new ≡ session.old) }
+{
+    match advice {
+        Advice::Chosen(chosen) => make_chosen(session, colour, board_move(*chosen)),
+        Advice::Resigned => Ok(()),
+        Advice::Unopened(_) => Ok(()),
     }
+}
 
-    /// Makes the engine's move for the colour.
-    pub(crate) fn generate<L: Ledger>(
-        &mut self,
-        id: &[u8],
-        colour: Colour,
-        limits: &Limits,
-        cycles: bool,
-        steps: &mut Steps<L>,
-    ) -> Result<ItemList<u8>, AllocError>
-        requires few { length self.old.moves < MOST_LINES }
-        ensures generated { IfOk result
-            (λ reply. IsGenerated cycles limits.now colour id.now self.old reply self.new) }
-        ensures same { OnErr result (self.new ≡ self.old) }
-        ensures steps { (regions : List Region)
-            → AreRegionsOfPlay (present self.old).board regions
-            → steps.new ≤ steps.old + most_steps limits.now regions }
-    {
-        let alloc = self.allocator();
-        let advice = self.advise(alloc, colour, limits, cycles, steps)?;
-        let reply = reply_to(alloc, id, self.present().board.size(), &advice)?;
-        self.follow(colour, &advice)?;
-        Ok(reply)
-    }
+/// Makes the engine's move for the colour.
+pub(crate) fn generate<L: Ledger>(
+    session: &mut BoardSession,
+    id: &[u8],
+    colour: Colour,
+    limits: &Limits,
+    cycles: bool,
+    steps: &mut Steps<L>,
+) -> Result<ItemList<u8>, AllocError>
+    requires few { length session.old.moves < MOST_LINES }
+    ensures generated { IfOk result
+        (λ reply. IsGenerated cycles limits.now colour id.now session.old reply session.new) }
+    ensures same { OnErr result (session.new ≡ session.old) }
+    ensures steps { (regions : List Region)
+        → AreRegionsOfPlay (present session.old).board regions
+        → steps.new ≤ steps.old + most_steps limits.now regions }
+{
+    let alloc = session.allocator();
+    let advice = advise_in(alloc, session, colour, limits, cycles, steps)?;
+    let reply = reply_to(alloc, id, session.present().board.size(), &advice)?;
+    follow(session, colour, &advice)?;
+    Ok(reply)
+}
 
-    /// Tells the engine's move for the colour.
-    pub(crate) fn suggest<L: Ledger>(
-        &self,
-        id: &[u8],
-        colour: Colour,
-        limits: &Limits,
-        cycles: bool,
-        steps: &mut Steps<L>,
-    ) -> Result<ItemList<u8>, AllocError>
-        requires few { length self.now.moves < MOST_LINES }
-        ensures suggested { IfOk result
-            (λ reply. IsSuggested cycles limits.now colour id.now self.now reply) }
-        ensures steps { (regions : List Region)
-            → AreRegionsOfPlay (present self.now).board regions
-            → steps.new ≤ steps.old + most_steps limits.now regions }
-    {
-        let alloc = self.allocator();
-        let advice = self.advise(alloc, colour, limits, cycles, steps)?;
-        let reply = reply_to(alloc, id, self.present().board.size(), &advice)?;
-        Ok(reply)
-    }
+/// Tells the engine's move for the colour.
+pub(crate) fn suggest<L: Ledger>(
+    session: &BoardSession,
+    id: &[u8],
+    colour: Colour,
+    limits: &Limits,
+    cycles: bool,
+    steps: &mut Steps<L>,
+) -> Result<ItemList<u8>, AllocError>
+    requires few { length session.now.moves < MOST_LINES }
+    ensures suggested { IfOk result
+        (λ reply. IsSuggested cycles limits.now colour id.now session.now reply) }
+    ensures steps { (regions : List Region)
+        → AreRegionsOfPlay (present session.now).board regions
+        → steps.new ≤ steps.old + most_steps limits.now regions }
+{
+    let alloc = session.allocator();
+    let advice = advise_in(alloc, session, colour, limits, cycles, steps)?;
+    let reply = reply_to(alloc, id, session.present().board.size(), &advice)?;
+    Ok(reply)
 }

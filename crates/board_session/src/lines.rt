@@ -9,8 +9,8 @@ ghost use Rattle.gtp_words.specs.Loads.{AreLoads, RoseBy};
 ghost use Rattle.gtp_words.specs.Sessions.{WritesByEnd};
 ghost use Rattle.gtp_words.specs.Steps.{StepsByEnd, StepsOfLines, counted};
 ghost use Rattle.board_session.specs.Asking.{LineNames};
-ghost use Rattle.board_session.specs.Session.{AnswersLine, first_state};
-ghost use Rattle.board_session.specs.States.{BoardState};
+ghost use Rattle.board_session.specs.Session.{AnswersLine};
+ghost use Rattle.board_orders.specs.States.{first_state, BoardState};
 ghost use Rattle.board_session.specs.Steps.{AreLineSteps};
 ghost use Rattle.board_session.specs.Written.{unused};
 
@@ -25,7 +25,7 @@ impl AnswersLines for BoardEngine {
     ghost use Rattle.board_session.specs.declared.limits.BoardLimits.{BoardLimits};
     ghost use Rattle.board_session.specs.Asking.{LineNames};
     ghost use Rattle.board_session.specs.Session.{AnswersLine};
-    ghost use Rattle.board_session.specs.States.{BoardState};
+    ghost use Rattle.board_orders.specs.States.{BoardState};
     ghost use Rattle.board_session.specs.Steps.{AreLineSteps};
     ghost use Rattle.board_session.specs.Written.{CanAnswer, loaded};
 

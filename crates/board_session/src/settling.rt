@@ -1,7 +1,7 @@
 //! What a kept board comes to where it is to be solved.
 
 ghost use Rattle.std.specs.Prelude.{◌<◌, ◌^◌, IfOk};
-ghost use Rattle.board_session.specs.Kept.{IsModest};
+ghost use Rattle.board_orders.specs.Kept.{IsModest};
 ghost use Rattle.board_session.specs.inner.Settling.{SettlesAs};
 
 use crate::advice::unsettled_words;

@@ -8,10 +8,8 @@ ghost use Rattle.board_session.specs.Analysing.{HasStatus};
 ghost use Rattle.board_session.specs.inner.Analysing.{RepliesStones};
 
 use crate::advice::unsettled_words;
-use crate::refusal::{accept, refuse_unscored};
-use crate::texts::vertices_text;
-use crate::topic::Status;
 use benson_life::Territory;
+use board_orders::{Status, accept, refuse_unscored, vertices_text};
 use go_grid::{Board, Point, Points};
 use item_list::ItemList;
 use std::alloc::{AllocError, Global};

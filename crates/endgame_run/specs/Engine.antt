@@ -21,7 +21,7 @@ use Rattle.gtp_engine.specs.Steps as engine_steps
 use Rattle.board_session.specs.Asking as board_file
 use Rattle.board_session.specs.Session as board
 use Rattle.board_session.specs.Steps as board_steps
-use Rattle.board_session.specs.States.{BoardState}
+use Rattle.board_orders.specs.States.{BoardState, first_state}
 use Rattle.endgame_run.specs.File.{TakesAtMost, most_of_engine}
 use Rattle.endgame_run.specs.Limits.{board_limits, engine_limits}
 use Rattle.endgame_run.specs.declared.status.Status.{Status}
@@ -53,7 +53,7 @@ board_rules limits = record {
   Reply = board.AnswersLine limits;
   Names = board_file.LineNames;
   Steps = board_steps.AreLineSteps limits;
-  start = board.first_state;
+  start = first_state;
 }
 
 -- the session of a job

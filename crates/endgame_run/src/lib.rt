@@ -25,4 +25,5 @@ mod trial;
 pub use program::{code_of_run, start};
 pub use sgf_go::FileFault;
 pub use status::Status;
+pub use terms::GameTerms;
 pub use top::run;

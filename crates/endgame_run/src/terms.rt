@@ -4,7 +4,7 @@ use endgame_solver::Limits;
 
 /// Within which limits a position is opened, and whether there is a tax.
 #[derive(Clone, Copy)]
-pub(crate) struct GameTerms {
+pub struct GameTerms {
     pub limits: Limits,
     pub tax: bool,
 }

@@ -5,13 +5,14 @@ use Rattle.go_grid.specs.Region.{Region}
 use Rattle.go_play.specs.Setup.{Setup}
 use Rattle.whole_rules.specs.WholeGame.{Whole}
 use Rattle.endgame_solver.specs.Limits.{Limits}
-use Rattle.board_session.specs.declared.topic.Analysis.{Analysis}
+use Rattle.board_orders.specs.declared.topic.Analysis.{Analysis}
 use Rattle.board_session.specs.declared.topic.CycleTopic.{CycleTopic}
-use Rattle.board_session.specs.declared.topic.Status.{Status}
-use Rattle.board_session.specs.declared.topic.Topic.{Topic}
+use Rattle.board_orders.specs.declared.topic.Status.{Status}
+use Rattle.board_orders.specs.declared.topic.Topic.{Topic}
 use Rattle.board_session.specs.Analysing.{Finding, FindsBy, FindsIn, FindsInWithCycles, FindsOn, FindsOnWithCycles, FindsStones, IsShown}
-use Rattle.board_session.specs.Session.{Reports, Said, done, finding_said, reply_text}
-use Rattle.board_session.specs.States.{BoardState}
+use Rattle.board_session.specs.Session.{Reports, finding_said}
+use Rattle.board_orders.specs.Effects.{Said, done, reply_text}
+use Rattle.board_orders.specs.States.{BoardState}
 
 -- the reply tells what is found, which is so
 abbrev pub RepliesTo : (Finding → Type 0) → List ℕ → List ℕ → Type 0

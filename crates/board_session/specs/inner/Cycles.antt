@@ -6,7 +6,7 @@ use Rattle.cycle_solver.specs.declared.faults.CycleError.TheVariants.{Points, Po
 use Rattle.engine_player.specs.Played.{Played}
 use Rattle.board_session.specs.Cycles.{MovesAnew}
 use Rattle.board_session.specs.Generating.{Advice, PayFor, after_passes, chosen, resigned, unopened}
-use Rattle.board_session.specs.Tallies.{Tally}
+use Rattle.board_orders.specs.Tallies.{Tally}
 
 -- what the colour to move is told where its game begins so, but for the passes
 abbrev pub IsToldWithCycles : Tally → Played → Advice → Type 0

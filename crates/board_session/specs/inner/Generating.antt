@@ -1,19 +1,18 @@
 -- What contracts see of an advice, and what the parts of one come to.
-use Rattle.std.specs.Prelude.{◌≡◌, ℕ, codes, Option, Some, None, string_bytes}
+use Rattle.std.specs.Prelude.{◌≡◌, ℕ, codes, string_bytes}
 use Rattle.go_grid.specs.declared.grid.Colour.{Colour}
 use Rattle.whole_rules.specs.Moves.{IsMoveOnBoard}
 use Rattle.whole_rules.specs.WholeGame.{Whole}
 use Rattle.endgame_solver.specs.Solved.{Chooses, HasMove}
 use Rattle.board_session.specs.declared.advice.Advice.{Advice as Told}
 use Rattle.board_session.specs.declared.advice.Advice.TheVariants as told
-use Rattle.board_session.specs.declared.position.BoardMove.{BoardMove}
-use Rattle.board_session.specs.declared.position.MadeMove.{MadeMove}
-use Rattle.board_session.specs.declared.position.Position.{Position}
+use Rattle.board_orders.specs.declared.position.BoardMove.{BoardMove}
+use Rattle.board_orders.specs.declared.position.Position.{Position}
 use Rattle.board_session.specs.Generating.{Advice, PayFor, after_passes, board_move, chosen, komi_after, resigned, unopened}
-use Rattle.board_session.specs.Kept.{IsModest}
-use Rattle.board_session.specs.Positions.{IsIllegal, MakesMove}
-use Rattle.board_session.specs.States.{BoardState, present}
-use Rattle.board_session.specs.Tallies.{Tally}
+use Rattle.board_orders.specs.Kept.{IsModest}
+use Rattle.board_orders.specs.Positions.{MakesMove}
+use Rattle.board_orders.specs.States.{BoardState, present}
+use Rattle.board_orders.specs.Tallies.{Tally}
 
 -- the advice that was made
 abbrev pub advice_of : Told → Advice
@@ -40,8 +39,3 @@ MayMake c m s = (b : Position) × MakesMove c m (present s) b
 abbrev pub MayFollow : Colour → Advice → BoardState → Type 0
 MayFollow c (chosen m) s = MayMake c (board_move m) s × IsModest (komi_after c (board_move m) s.komi_halves)
 MayFollow c a s = Unit {0}
-
--- the move of the colour with the position after it, or that it may not be made
-abbrev pub IsMadeBy : Colour → BoardMove → BoardState → Option MadeMove → Type 0
-IsMadeBy c m s (Some made) = MakesMove c m (present s) made.after × (made ≡ record { after = made.after; komi_before = s.komi_halves; chosen = m; colour = c })
-IsMadeBy c m s None = IsIllegal c m (present s)

@@ -5,10 +5,11 @@ use Rattle.board_words.specs.Words.{colour_word}
 use Rattle.gtp_words.specs.Loads.{Fate, NotesFate, failed_more, made_more}
 use Rattle.gtp_words.specs.declared.loading.Loading.{Loading}
 use Rattle.gtp_words.specs.declared.loading.Loading.TheVariants.{Failed, Nothing, Position}
-use Rattle.board_session.specs.declared.refusal.Refusal.TheVariants.{CannotLoadFile}
-use Rattle.board_session.specs.Orders.{Asked, BoardOrder}
-use Rattle.board_session.specs.Session.{Meets, Obeys, Said, done, refused, reply_text}
-use Rattle.board_session.specs.States.{of_setup}
+use Rattle.board_orders.specs.declared.refusal.Refusal.TheVariants.{CannotLoadFile}
+use Rattle.board_orders.specs.Orders.{Asked, BoardOrder}
+use Rattle.board_session.specs.Session.{Meets, Obeys}
+use Rattle.board_orders.specs.Effects.{Said, done, refused, reply_text}
+use Rattle.board_orders.specs.States.{of_setup}
 use Rattle.board_session.specs.Written.{BoardEngine}
 
 -- the reply to a load of a file, and what it leaves

@@ -7,7 +7,7 @@ use Rattle.std.specs.Prelude.{string_bytes}
 use Rattle.board_session.specs.Generating.{Advises}
 use Rattle.board_session.specs.inner.Generating.{IsTold, advice_of}
 use Rattle.board_session.proofs.GeneratingLemmas.{told_advises}
-use Rattle.board_session.proofs.HandicapLemmas.{if_ok}
+use Rattle.board_orders.proofs.HandicapLemmas.{if_ok}
 use Rattle.board_session.proofs.advice.open.Goals as goal
 
 pub fault_words-requires : goal.fault_words-requires

@@ -5,10 +5,11 @@ use Rattle.fault_words.specs.NamedPoints.{NamesPoints}
 use Rattle.fault_words.proofs.NamedPointLemmas.{names_points}
 use Rattle.gtp_words.specs.Vertices.{vertex_text}
 use Rattle.board_session.specs.Analysing.{none_found}
-use Rattle.board_session.specs.Session.{finding_said, reply_text}
+use Rattle.board_session.specs.Session.{finding_said}
+use Rattle.board_orders.specs.Effects.{reply_text}
 use Rattle.board_session.specs.inner.Analysing.{RepliesOn}
 use Rattle.board_session.proofs.AnalysisLemmas.{fault_told, replies_in}
-use Rattle.board_session.proofs.KeptLemmas.{same_komi}
+use Rattle.board_orders.proofs.KeptLemmas.{same_komi}
 use Rattle.board_session.proofs.analysis.reply_in.Goals as goal
 
 pub fault_words-requires : goal.fault_words-requires

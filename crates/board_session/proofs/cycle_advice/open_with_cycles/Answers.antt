@@ -4,7 +4,7 @@ use Rattle.board_session.specs.Cycles.{AdvisesWithCycles, AreCycleFaultWords}
 use Rattle.board_session.specs.inner.Cycles.{IsToldWithCycles, NamesPoint}
 use Rattle.board_session.specs.inner.Generating.{advice_of}
 use Rattle.board_session.proofs.CycleAdviceLemmas.{names_point, told_with_cycles}
-use Rattle.board_session.proofs.HandicapLemmas.{if_ok}
+use Rattle.board_orders.proofs.HandicapLemmas.{if_ok}
 use Rattle.board_session.proofs.cycle_advice.open_with_cycles.Goals as goal
 
 pub tell-advice-requires : goal.tell-advice-requires

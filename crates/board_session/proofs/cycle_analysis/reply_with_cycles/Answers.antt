@@ -1,12 +1,12 @@
 use Rattle.std.proofs.Common.{◌≡◌, subst, sym, IfOk, string_bytes, ap, ◌∙◌, length}
 use Rattle.gtp_words.specs.Vertices.{vertex_text}
 use Rattle.board_session.specs.Cycles.{AreCycleFaultWords}
-use Rattle.board_session.specs.Session.{reply_text, unsolved}
+use Rattle.board_orders.specs.Effects.{reply_text, unsolved}
 use Rattle.board_session.specs.inner.Analysing.{RepliesOnWithCycles}
 use Rattle.board_session.specs.inner.Cycles.{NamesPoint}
 use Rattle.board_session.proofs.CycleAdviceLemmas.{names_point}
 use Rattle.board_session.proofs.CycleAnalysisLemmas.{begins_play, cycle_fault_told, cycles_reply_in}
-use Rattle.board_session.proofs.KeptLemmas.{same_komi}
+use Rattle.board_orders.proofs.KeptLemmas.{same_komi}
 use Rattle.board_session.proofs.cycle_analysis.reply_with_cycles.Goals as goal
 
 pub words_of-requires : goal.words_of-requires

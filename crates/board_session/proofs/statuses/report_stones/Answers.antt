@@ -1,6 +1,6 @@
 use Rattle.std.proofs.Common.{◌≡◌, subst, IfOk, MatchOption, string_bytes}
 use Rattle.go_grid.specs.Chain.{IsFirstUnsettled, IsSettled}
-use Rattle.board_session.specs.Session.{reply_text, unscored}
+use Rattle.board_orders.specs.Effects.{reply_text, unscored}
 use Rattle.board_session.proofs.AnalysisLemmas.{no_stones_told}
 use Rattle.board_session.proofs.statuses.report_stones.Goals as goal
 

@@ -1,6 +1,6 @@
 use Rattle.std.proofs.Common.{◌≡◌, ◌∙◌, string_bytes, subst, IfOk}
-use Rattle.board_session.specs.Session.{done, reply_text}
-use Rattle.board_session.specs.Texts.{vertices_text}
+use Rattle.board_orders.specs.Effects.{done, reply_text}
+use Rattle.board_orders.specs.Texts.{vertices_text}
 use Rattle.board_session.proofs.AnalysisLemmas.{stones_told}
 use Rattle.board_session.proofs.statuses.tell_stones.Goals as goal
 

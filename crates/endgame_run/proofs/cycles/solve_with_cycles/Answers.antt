@@ -5,7 +5,7 @@ use Rattle.endgame_run.specs.Cycles.{cycle_refusal_line}
 use Rattle.endgame_run.specs.Question.{IsPositionAnswer}
 use Rattle.endgame_run.specs.inner.Refusal.{NamesCyclePoints}
 use Rattle.endgame_run.proofs.CycleAnswers.{cycle_fault_answer, cycle_game_answer, names_cycle_points}
-use Rattle.board_session.proofs.KeptLemmas.{same_komi}
+use Rattle.board_orders.proofs.KeptLemmas.{same_komi}
 use Rattle.endgame_run.proofs.cycles.solve_with_cycles.Goals as goal
 
 pub refused_with_cycles-requires : goal.refused_with_cycles-requires

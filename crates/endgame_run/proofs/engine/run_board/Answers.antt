@@ -2,8 +2,8 @@ use Rattle.std.proofs.Common.{refl, ap, arith, subst}
 use Rattle.gtp_words.specs.Sessions.{WritesByEnd}
 use Rattle.desk_io.specs.declared.lines.TheConstants.{MOST_LINES}
 use Rattle.gtp_words.specs.Steps.{StepsByEnd, StepsOfLines, counted}
-use Rattle.board_session.specs.Session.{AnswersLine, first_state}
-use Rattle.board_session.specs.States.{BoardState}
+use Rattle.board_session.specs.Session.{AnswersLine}
+use Rattle.board_orders.specs.States.{BoardState, first_state}
 use Rattle.board_session.specs.Steps.{AreLineSteps}
 use Rattle.desk_io.specs.Desk.{desk, input_of, known, outside}
 use Rattle.endgame_run.specs.Engine.{board_rules}

@@ -5,7 +5,7 @@ use Rattle.endgame_run.specs.Refusal.{refusal_line}
 use Rattle.fault_words.specs.NamedPoints.{NamesPoints}
 use Rattle.fault_words.proofs.NamedPointLemmas.{names_points}
 use Rattle.endgame_run.proofs.RefusalLaws.{fault_answer, game_answer}
-use Rattle.board_session.proofs.KeptLemmas.{same_komi}
+use Rattle.board_orders.proofs.KeptLemmas.{same_komi}
 use Rattle.endgame_run.proofs.solving.solve.Goals as goal
 
 pub refused-requires : goal.refused-requires

@@ -1,12 +1,12 @@
 use Rattle.std.proofs.Common.{◌≡◌, ℕ, List, length, map, inl, inr, refl, sym, ap, ◌∙◌, subst, Option, None}
 use Rattle.gtp_words.proofs.AskingLemmas.{asked_err, asked_wider, line_asks}
 use Rattle.board_session.specs.Asking.{AskedNames, LineNames}
-use Rattle.board_session.specs.Orders.{Asks}
+use Rattle.board_orders.specs.Orders.{Asks}
 use Rattle.board_session.specs.Steps.{AskToSolve}
-use Rattle.board_session.specs.inner.Viewed.{asked_of}
+use Rattle.board_orders.specs.Viewed.{asked_of}
 use Rattle.gtp_words.specs.Words.{AreWords, HasId}
 use Rattle.board_session.proofs.AnswerLemmas.{answered_if_ok, grown_if_ok, some_words}
-use Rattle.board_session.proofs.RangeLemmas.{asked_in_range}
+use Rattle.board_orders.proofs.RangeLemmas.{asked_in_range}
 use Rattle.board_session.proofs.engine.BoardEngine.answer.Goals as goal
 
 pub meet-answer-requires-clause-komi : goal.meet-answer-requires-clause-komi

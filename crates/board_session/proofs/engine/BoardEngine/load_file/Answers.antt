@@ -3,9 +3,9 @@ use Rattle.std.proofs.lemmas.Result.{IfOk-weaker}
 use Rattle.desk_io.specs.Files.{told_file}
 use Rattle.gtp_words.specs.Loads.Fate.{no_load}
 use Rattle.board_session.specs.Asking.{OrderNames}
-use Rattle.board_session.specs.Orders.BoardOrder.{loadsgf}
-use Rattle.board_session.specs.Session.{refused}
-use Rattle.board_session.specs.declared.refusal.Refusal.TheVariants.{CannotLoadFile}
+use Rattle.board_orders.specs.Orders.BoardOrder.{loadsgf}
+use Rattle.board_orders.specs.Effects.{refused}
+use Rattle.board_orders.specs.declared.refusal.Refusal.TheVariants.{CannotLoadFile}
 use Rattle.gtp_words.specs.Files.{IsLoaded, load_settings}
 use Rattle.gtp_words.proofs.AskingLemmas.{asked_none, asked_once}
 use Rattle.board_session.proofs.AnswerLemmas.{loaded_fits, loads_obeyed}

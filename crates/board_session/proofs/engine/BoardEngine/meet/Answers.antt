@@ -4,7 +4,7 @@ use Rattle.gtp_words.proofs.AskingLemmas.{asked_err}
 use Rattle.board_session.specs.Asking.{AskedNames}
 use Rattle.board_session.specs.Steps.{AskToSolve}
 use Rattle.board_session.specs.inner.Obeying.{IsMet}
-use Rattle.board_session.specs.inner.Viewed.{asked_of}
+use Rattle.board_orders.specs.Viewed.{asked_of}
 use Rattle.board_session.proofs.AnswerLemmas.{met_misfit, met_unknown}
 use Rattle.board_session.proofs.engine.BoardEngine.meet.Goals as goal
 

@@ -2,8 +2,8 @@ use Rattle.std.proofs.Common.{ap, inl, refl, rules, arith, subst, sym, None, IfO
 use Rattle.gtp_words.specs.Asking.{AsksBy}
 use Rattle.gtp_words.proofs.AskingLemmas.{asked_none}
 use Rattle.board_session.specs.Asking.{OrderNames}
-use Rattle.board_session.specs.Orders.BoardOrder.{analyse, genmove, reg_genmove}
-use Rattle.board_session.specs.inner.Viewed.{order_of}
+use Rattle.board_orders.specs.Orders.BoardOrder.{analyse, genmove, reg_genmove}
+use Rattle.board_orders.specs.Viewed.{order_of}
 use Rattle.board_session.specs.inner.Obeying.{IsObeyed}
 use Rattle.board_session.proofs.AnswerLemmas.{generated_obeyed, plain_obeyed, plain_same, reported_obeyed, suggested_obeyed}
 use Rattle.board_session.proofs.AskingLemmas.{plain_names}
@@ -24,7 +24,7 @@ returns-in_default g c =
 
 pub returns-in-GenMove-clause-obeyed : goal.returns-in-GenMove-clause-obeyed
 returns-in-GenMove-clause-obeyed g c =
-    let inside = c.self.inside in let u = c.generate.new.self in let colour = c.in-GenMove.colour in let id = c.args.id.now in
+    let inside = c.self.inside in let u = c.generate.new.session in let colour = c.in-GenMove.colour in let id = c.args.id.now in
     generated_obeyed inside.limits inside.loads inside.session u c.args.self.now c.self.view_is (g.H.Shelf.files c.args.shelf.now) (g.H.Shelf.faults c.args.shelf.now) id
     (order_of c.args.request) colour (ap order_of c.in-GenMove.is) c.generate.result
     c.generate.ensures.generated
@@ -40,8 +40,8 @@ pub returns-in-Analyse-clause-obeyed : goal.returns-in-Analyse-clause-obeyed
 returns-in-Analyse-clause-obeyed g c =
     let inside = c.self-in-Analyse.inside in let analysis = c.in-Analyse.analysis in let id = c.args.id.now in
     reported_obeyed inside.limits inside.loads inside.session inside.session c.args.self.now c.self-in-Analyse.view_is (g.H.Shelf.files c.args.shelf.now) (g.H.Shelf.faults c.args.shelf.now) id
-    (order_of c.args.request) analysis (ap order_of c.in-Analyse.is) c.report.result
-    c.report.ensures.reported
+    (order_of c.args.request) analysis (ap order_of c.in-Analyse.is) c.analyse.result
+    c.analyse.ensures.reported
 
 pub returns-in-LoadSgf-clause-same : goal.returns-in-LoadSgf-clause-same
 returns-in-LoadSgf-clause-same g c = c.load_file.ensures.same
@@ -54,7 +54,7 @@ returns-in-LoadSgf-clause-later g c = c.load_file.ensures.later
 
 pub returns-in-GenMove-clause-same : goal.returns-in-GenMove-clause-same
 returns-in-GenMove-clause-same g c =
-    let inside = c.self.inside in plain_same inside.limits inside.loads inside.session c.generate.new.self c.args.self.now c.self.view_is c.generate.result c.generate.ensures.same
+    let inside = c.self.inside in plain_same inside.limits inside.loads inside.session c.generate.new.session c.args.self.now c.self.view_is c.generate.result c.generate.ensures.same
 
 pub returns-in-LoadSgf-clause-obeyed : goal.returns-in-LoadSgf-clause-obeyed
 returns-in-LoadSgf-clause-obeyed g c =
@@ -71,7 +71,7 @@ returns-in-RegGenMove-clause-asked g c =
 
 pub returns-in-Analyse-clause-asked : goal.returns-in-Analyse-clause-asked
 returns-in-Analyse-clause-asked g c =
-    asked_none g.H.Shelf.asks (OrderNames (order_of c.args.request)) c.args.shelf.now c.report.result (subst (λ o. OrderNames o None) (sym (ap order_of c.in-Analyse.is)) refl)
+    asked_none g.H.Shelf.asks (OrderNames (order_of c.args.request)) c.args.shelf.now c.analyse.result (subst (λ o. OrderNames o None) (sym (ap order_of c.in-Analyse.is)) refl)
 
 pub returns-in-LoadSgf-clause-asked : goal.returns-in-LoadSgf-clause-asked
 returns-in-LoadSgf-clause-asked g c =
@@ -93,4 +93,4 @@ pub returns-in-Analyse-clause-steps : goal.returns-in-Analyse-clause-steps
 returns-in-Analyse-clause-steps g c =
     let inside = c.self-in-Analyse.inside in
     solver_steps inside.limits inside.loads inside.session c.args.self.now c.self-in-Analyse.view_is (order_of c.args.request) (analyse c.in-Analyse.analysis) (ap order_of c.in-Analyse.is) tt
-    c.args.steps.now c.report.new.steps c.report.ensures.steps
+    c.args.steps.now c.analyse.new.steps c.analyse.ensures.steps

@@ -3,7 +3,7 @@ use Rattle.desk_io.specs.declared.lines.TheConstants.{MOST_LINES}
 use Rattle.gtp_words.specs.Sessions.{WritesByEnd}
 use Rattle.gtp_words.specs.Steps.{StepsByEnd, StepsOfLines, counted}
 use Rattle.board_session.specs.Session.{AnswersLine}
-use Rattle.board_session.specs.States.{BoardState}
+use Rattle.board_orders.specs.States.{BoardState}
 use Rattle.board_session.specs.Steps.{AreLineSteps}
 use Rattle.board_session.proofs.engine.BoardEngine.run.Goals as goal
 

@@ -1,0 +1,11 @@
+pub mod Tallies
+pub mod Positions
+pub mod States
+pub mod Texts
+pub mod Handicaps
+pub mod Orders
+pub mod Effects
+pub mod Kept
+pub mod Viewed
+pub mod Doing
+pub mod inner

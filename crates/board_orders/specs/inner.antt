@@ -1,0 +1,3 @@
+-- What loops and private calls keep; no public clause cites it.
+pub mod Doing
+pub mod Naming

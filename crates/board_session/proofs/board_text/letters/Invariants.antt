@@ -1,6 +1,0 @@
-use Rattle.std.proofs.Common.{◌≡◌, string_bytes}
-use Rattle.board_session.specs.Texts.{letters_below}
-use Rattle.board_session.proofs.board_text.letters.Given as goal
-
-abbrev pub invariant-letters : goal.invariant-letters
-invariant-letters l = string_bytes l.text ≡ letters_below l.column

@@ -1,6 +1,0 @@
-use Rattle.std.proofs.Common.{◌≡◌, string_bytes}
-use Rattle.board_session.specs.Texts.{stones_below}
-use Rattle.board_session.proofs.texts.stones_text.Given as goal
-
-abbrev pub invariant-stones : goal.invariant-stones
-invariant-stones l = string_bytes l.text ≡ stones_below l.board l.colour l.number

@@ -1,6 +1,0 @@
-use Rattle.std.proofs.Common.{◌≡◌, drop, string_bytes}
-use Rattle.board_session.specs.Texts.{vertices_behind, vertices_text}
-use Rattle.board_session.proofs.texts.vertices_text.Given as goal
-
-abbrev pub invariant-points : goal.invariant-points
-invariant-points l = vertices_behind (string_bytes l.text) l.size.columns l.size.rows (drop l.at l.points) ≡ vertices_text l.size.columns l.size.rows l.points
