@@ -2,8 +2,8 @@
 use Rattle.std.proofs.Common.{◌≡◌, ◌≢◌, ℕ, ◌+◌, ◌^◌, ◌<◌, ◌≤◌, inl, inr, suc, zero, arith, refl, sym, ap, ◌∙◌, List, [], ◌∷◌, ◌++◌, map, length, drop, get_or, set, subst, length-append, Ok, Err}
 use Rattle.std.specs.List.{AllPairs, Contains}
 use Rattle.std.proofs.lemmas.Bool.{cases_eq, cases_lt}
-use Rattle.std.proofs.lemmas.List.{get_or_append_left, get_or-set_same, get_or-set_other, length-set, get_or_default, length-map, get_or-map}
-use Rattle.std.proofs.lemmas.List.Elements.{Contains-get_or, Contains-push, Contains-push_cases, Contains-append_left}
+use Rattle.std.proofs.lemmas.List.{get_or_append_left, get_or-set_same, get_or-set_other, length-set, get_or_default, get_or_past, length-map, get_or-map}
+use Rattle.std.proofs.lemmas.List.Elements.{Contains-get_or, Contains-push_cases}
 use Rattle.go_grid.specs.declared.grid.Cell.{Cell}
 use Rattle.go_grid.specs.declared.region.Touch.{Touch}
 use Rattle.local_play.specs.declared.local_move.LocalMove.{LocalMove}
@@ -15,11 +15,15 @@ use Rattle.local_graph.specs.declared.graph_build.GraphError.{GraphError}
 use Rattle.local_graph.specs.declared.graph_build.GraphError.TheVariants.{Points, Positions, Cycle, Memory}
 use Rattle.local_graph.specs.declared.cycle.CycleMove.{CycleMove}
 use Rattle.local_graph.specs.declared.graph.Edge.{Edge}
+use Rattle.local_graph.specs.declared.search.Visit.{Visit}
+use Rattle.local_graph.specs.declared.search.Visit.TheVariants.{New, OnPath}
 use Rattle.local_graph.specs.LocalGraph.{Plays, IsReachable, AreEdges, HasMoves, IsGraph, MoreThan}
 use Rattle.go_grid.proofs.PlayLemmas.{long_after}
 use Rattle.local_graph.specs.inner.PlaceTable.{IsNumbered}
 use Rattle.local_graph.specs.inner.Exploring.{AreReachable, Exploring, EdgesFrom, AreMovesFrom}
 use Rattle.local_graph.specs.inner.Found.{Grows, AddsPositions, EdgesFor, Explored, Placed, AreAwaited}
+use Rattle.local_graph.specs.inner.Searching.{visit_at}
+use Rattle.local_graph.specs.inner.Walk.{KeepsNew}
 use Rattle.local_graph.proofs.FoundLemmas.{edge_more, Linking, linking_all, extends_grows}
 use Rattle.local_graph.proofs.FiniteLemmas.{few_positions}
 use Rattle.local_graph.proofs.PlayLemmas.{plays_long, plays_more, one_after}
@@ -36,11 +40,11 @@ only_opening touch opening start positions (inr (is, new)) e n h = elim (Contain
 ]
 
 pub explore_start : (touch : List Touch) (opening : List Cell) (limit start place : ℕ) (positions : List ℕ) (all : List (List Edge))
-    (waiting : List ℕ) → Grows [] start positions → place < length positions → get_or positions place 0 ≡ start → length positions ≤ limit
-    → start ≡ pack opening → AreAwaited [] [] (length positions) all waiting → Exploring touch opening limit positions all waiting
-explore_start touch opening limit start place positions all waiting g inside at few e w = go g
+    (visits : List Visit) → Grows [] start positions → place < length positions → get_or positions place 0 ≡ start → length positions ≤ limit
+    → start ≡ pack opening → AreAwaited [] [] (length positions) all visits → Exploring touch opening limit positions all visits
+explore_start touch opening limit start place positions all visits g inside at few e w = go g
   where
-    go : Grows [] start positions → Exploring touch opening limit positions all waiting
+    go : Grows [] start positions → Exploring touch opening limit positions all visits
     go (inl none) = absurd (let l = ap length none in omega arith)
     go (inr (is, new)) = record {
       some = omega arith;
@@ -49,8 +53,8 @@ explore_start touch opening limit start place positions all waiting g inside at 
       few = few;
       reachable = only_opening touch opening start positions g e;
       beside = w.long;
-      inside = λ i h. elim (w.only i h) [ inl old ↦ absurd (contains_nil i old) | inr lt ↦ lt ];
-      moves = λ i cells lt apart. absurd (apart (w.new i (omega arith) lt));
+      seen = omega (arith, w.seen);
+      moves = λ i cells lt apart. absurd (apart (w.known i));
     }
 
 -- what was found keeps its place and its moves
@@ -70,24 +74,22 @@ reachable_more touch opening before after cells moves all x here legal n h = eli
       (move.after, (here.0 ++ step ∷ [], plays_more touch opening cells move.after here.0 step here.1 move.move), sym is ∙ move.next)
 ]
 
--- the last of those that wait is explored
+-- a new position is explored
 pub explore_step : (touch : List Touch) (opening : List Cell) (limit : ℕ) (positions after : List ℕ) (edges all : List (List Edge))
-    (front waiting : List ℕ) (place : ℕ) (cells : List Cell) (moves : List LocalMove) (es : List Edge)
-    → Exploring touch opening limit positions edges (front ++ place ∷ []) → IsReachable touch opening cells
+    (visits still visits' : List Visit) (place : ℕ) (cells : List Cell) (moves : List LocalMove) (es : List Edge)
+    → Exploring touch opening limit positions edges visits → place < length positions → IsReachable touch opening cells
     → get_or positions place 0 ≡ pack cells → ListsLocalMoves touch cells moves → AddsPositions positions moves after → AreEdges after moves es
-    → length after ≤ limit → AreAwaited (set edges place es) front (length after) all waiting → Exploring touch opening limit after all waiting
-explore_step touch opening limit positions after edges all front waiting place cells moves es s here at lists x linked few w = record {
+    → length after ≤ limit → AreAwaited (set edges place es) visits (length after) all still → visits' ≡ set still place OnPath
+    → Exploring touch opening limit after all visits'
+explore_step touch opening limit positions after edges all visits still visits' place cells moves es s inside_place here at lists x linked few w entered = record {
   some = omega (arith, s.some, longer, sum);
   first = ap (λ l. get_or l 0 0) x.appended ∙ get_or_append_left positions x.more 0 0 s.some ∙ s.first;
   once = x.once;
   few = few;
   reachable = reachable_more touch opening positions after cells moves s.reachable x here lists.legal;
   beside = w.long;
-  inside = λ i h. elim (w.only i h) [
-    | inl old ↦ let lt = s.inside i (Contains-append_left front (place ∷ []) i old) in omega (arith, lt, longer, sum)
-    | inr lt ↦ lt
-  ];
-  moves = λ i there less apart reach is. elim (cases_eq i place) [
+  seen = omega (arith, ap length entered, length-set still place OnPath, w.seen, length-set edges place es, s.seen, s.beside);
+  moves = λ i there less known reach is. elim (cases_eq i place) [
     | inl e ↦
         let number : pack there ≡ pack cells =
         sym is ∙ ap (λ l. get_or l i 0) x.appended ∙ get_or_append_left positions x.more 0 i (omega (arith, e, inside_place))
@@ -100,11 +102,11 @@ explore_step touch opening limit positions after edges all front waiting place c
         subst (λ y. HasMoves touch y after (get_or all i [])) (sym same)
         (subst (HasMoves touch cells after) (sym its) (moves, lists, linked))
     | inr ne ↦ elim (cases_lt i (length positions)) [
-      | inr late ↦ absurd (apart (w.new i (omega (arith, late, length-set edges place es, s.beside)) less))
+      | inr late ↦ absurd (known (visit_other i ne ∙ w.known i ∙ get_or_past visits i New (omega (arith, late, s.seen))))
       | inl old ↦
           let is' = sym (get_or_append_left positions x.more 0 i old) ∙ ap (λ l. get_or l i 0) (sym x.appended) ∙ is in
           let its : get_or all i [] ≡ get_or edges i [] = w.lists i ∙ get_or-set_other' i ne in
-          let was = s.moves i there old (before i ne apart) reach is' in
+          let was = s.moves i there old (λ new. known (visit_other i ne ∙ w.known i ∙ new)) reach is' in
           subst (HasMoves touch there after) (sym its)
           (has_moves_more touch there positions x.more after (get_or edges i []) x.appended was)
     ]
@@ -117,17 +119,29 @@ explore_step touch opening limit positions after edges all front waiting place c
     sum : length (positions ++ x.more) ≡ length positions + length x.more
     sum = length-append positions x.more
 
-    inside_place : place < length positions
-    inside_place = s.inside place (Contains-push front place)
-
     get_or-set_other' : (i : ℕ) → i ≢ place → get_or (set edges place es) i [] ≡ get_or edges i []
     get_or-set_other' i ne = rw get_or-set_other refl
 
-    before : (i : ℕ) → i ≢ place → ¬ Contains waiting i → ¬ Contains (front ++ place ∷ []) i
-    before i ne apart h = elim (Contains-push_cases front place i h) [
-      | inl old ↦ apart (w.old i old)
-      | inr e ↦ ne (sym e)
-    ]
+    visit_other : (i : ℕ) → i ≢ place → visit_at visits' i ≡ visit_at still i
+    visit_other i ne = ap (λ l. visit_at l i) entered ∙ other i ne
+      where
+        other : (i : ℕ) → i ≢ place → visit_at (set still place OnPath) i ≡ visit_at still i
+        other i ne = rw get_or-set_other refl
+
+-- where new places stay new, what is known of the others is
+pub explore_on : (touch : List Touch) (opening : List Cell) (limit : ℕ) (positions : List ℕ) (edges : List (List Edge))
+    (visits after : List Visit) → Exploring touch opening limit positions edges visits → KeepsNew visits after
+    → Exploring touch opening limit positions edges after
+explore_on touch opening limit positions edges visits after s k = record {
+  some = s.some;
+  first = s.first;
+  once = s.once;
+  few = s.few;
+  reachable = s.reachable;
+  beside = s.beside;
+  seen = k.long ∙ s.seen;
+  moves = λ i cells lt known. s.moves i cells lt (λ new. known (k.new i new));
+}
 
 -- the positions of a list of numbers
 pub unpacked : (touch : List Touch) (opening : List Cell) (ns : List ℕ) → AreReachable touch opening ns
@@ -190,21 +204,19 @@ start_err touch opening limit start after (Cycle ms back) is x = absurd x
 start_err touch opening limit start after (Memory e) is x = tt
 
 -- with the moves of each position there is no other position
-pub explore_end : (touch : List Touch) (opening : List Cell) (limit : ℕ) (positions : List ℕ) (edges : List (List Edge)) (waiting : List ℕ)
-    → Exploring touch opening limit positions edges waiting → length waiting ≡ 0 → IsGraph touch opening positions edges
-explore_end touch opening limit positions edges waiting s none = record {
+pub explore_end : (touch : List Touch) (opening : List Cell) (limit : ℕ) (positions : List ℕ) (edges : List (List Edge)) (visits : List Visit)
+    → Exploring touch opening limit positions edges visits → ((i : ℕ) → i < length visits → visit_at visits i ≢ New)
+    → IsGraph touch opening positions edges
+explore_end touch opening limit positions edges visits s none = record {
   some = s.some;
   first = s.first;
   once = s.once;
   reachable = s.reachable;
   all = λ cells r. reach opening r.0 cells ([], refl) opening_there r.1;
   beside = s.beside;
-  moves = λ i cells lt. s.moves i cells lt (none_waits i);
+  moves = λ i cells lt. s.moves i cells lt (none i (omega (arith, lt, s.seen)));
 }
   where
-    none_waits : (i : ℕ) → ¬ Contains waiting i
-    none_waits i (k, lt, at) = omega (arith, none)
-
     opening_there : Contains positions (pack opening)
     opening_there = subst (Contains positions) s.first (Contains-get_or positions 0 0 s.some)
 
@@ -221,7 +233,7 @@ explore_end touch opening limit positions edges waiting s none = record {
         → IsLocalMove touch from m.colour m.place next → Contains positions (pack next)
     step from next m reach (i, lt, at) move =
         let is = get_or_default positions i 0 (pack from) lt ∙ at in
-        let h = s.moves i from lt (none_waits i) reach is in
+        let h = s.moves i from lt (none i (omega (arith, lt, s.seen))) reach is in
         let found = h.1.all m.colour m.place next move in
         let legal = h.1.legal found.0 found.1 in
         let move' = subst (λ p. IsLocalMove touch from m.colour p next) (sym found.3)
@@ -243,14 +255,14 @@ start_fails touch opening limit start before after e none is p =
     start_err touch opening limit start after e is (subst (λ l. Placed l start limit after (Err e)) none p)
 
 pub start_found : (touch : List Touch) (opening : List Cell) (limit start place count : ℕ) (before positions : List ℕ)
-    (none all : List (List Edge)) (nothing waiting : List ℕ) → before ≡ [] → start ≡ pack opening → none ≡ [] → nothing ≡ []
-    → Placed before start limit positions (Ok place) → count ≡ length positions → AreAwaited none nothing count all waiting
-    → Exploring touch opening limit positions all waiting
-start_found touch opening limit start place count before positions none all nothing waiting first is empty empty' p full w =
+    (none all : List (List Edge)) (nothing visits : List Visit) → before ≡ [] → start ≡ pack opening → none ≡ [] → nothing ≡ []
+    → Placed before start limit positions (Ok place) → count ≡ length positions → AreAwaited none nothing count all visits
+    → Exploring touch opening limit positions all visits
+start_found touch opening limit start place count before positions none all nothing visits first is empty empty' p full w =
     let p' = subst (λ l. Placed l start limit positions (Ok place)) first p in
-    let w' = subst (λ n. AreAwaited [] [] n all waiting) full
-    (subst (λ l. AreAwaited [] l count all waiting) empty' (subst (λ l. AreAwaited l nothing count all waiting) empty w)) in
-    explore_start touch opening limit start place positions all waiting p'.0 p'.1 p'.2 p'.3 is w'
+    let w' = subst (λ n. AreAwaited [] [] n all visits) full
+    (subst (λ l. AreAwaited [] l count all visits) empty' (subst (λ l. AreAwaited l nothing count all visits) empty w)) in
+    explore_start touch opening limit start place positions all visits p'.0 p'.1 p'.2 p'.3 is w'
 
 -- the opening and what its moves lead to are positions of as many places
 pub opening_numbered : (cells : List Cell) (numbers places n : ℕ) → length cells ≡ places → places ≤ 32 → numbers ≡ 3 ^ places
@@ -280,19 +292,13 @@ next_position touch opening positions i n all inside e =
     record { inside = inside; at = at; cells = w.0; long = plays_long touch opening w.0 w.1.0 w.1.1; reach = w.1; packed = w.2 }
 
 pub explored_more : (touch : List Touch) (opening : List Cell) (limit : ℕ) (positions after : List ℕ) (all put all' : List (List Edge))
-    (waiting front still : List ℕ) (i n count : ℕ) (moves : List LocalMove) (es : List Edge) (done : Unit {0})
-    → Exploring touch opening limit positions all waiting → waiting ≡ front ++ i ∷ [] → (w : IsNext touch opening positions i n)
+    (visits still visits' : List Visit) (i n count : ℕ) (moves : List LocalMove) (es : List Edge) (done : Unit {0})
+    → Exploring touch opening limit positions all visits → (w : IsNext touch opening positions i n)
     → ListsLocalMoves touch w.cells moves → EdgesFor positions moves limit after es (Ok done) → put ≡ set all i es → count ≡ length after
-    → AreAwaited put front count all' still → Exploring touch opening limit after all' still
-explored_more touch opening limit positions after all put all' waiting front still i n count moves es done s ends w lists x is full a =
-    explore_step touch opening limit positions after all all' front still i w.cells moves es
-    (subst (Exploring touch opening limit positions all) ends s) w.reach (w.at ∙ w.packed) lists x.0 x.1 x.2
-    (subst (λ m. AreAwaited (set all i es) front m all' still) full (subst (λ l. AreAwaited l front count all' still) is a))
-
--- the last of those that wait is a place
-pub last_waiting : (touch : List Touch) (opening : List Cell) (limit : ℕ) (positions : List ℕ) (all : List (List Edge)) (waiting front : List ℕ)
-    (i : ℕ) → Exploring touch opening limit positions all waiting → waiting ≡ front ++ i ∷ [] → i < length positions
-last_waiting touch opening limit positions all waiting front i s ends = s.inside i (subst (λ l. Contains l i) (sym ends) (Contains-push front i))
+    → AreAwaited put visits count all' still → visits' ≡ set still i OnPath → Exploring touch opening limit after all' visits'
+explored_more touch opening limit positions after all put all' visits still visits' i n count moves es done s w lists x is full a entered =
+    explore_step touch opening limit positions after all all' visits still visits' i w.cells moves es s w.inside w.reach (w.at ∙ w.packed) lists x.0 x.1 x.2
+    (subst (λ m. AreAwaited (set all i es) visits m all' still) full (subst (λ l. AreAwaited l visits count all' still) is a)) entered
 
 -- the edges of all moves
 pub edges_from : (touch : List Touch) (cells : List Cell) (before : List ℕ) (limit : ℕ) (after : List ℕ) (given : List LocalMove)
@@ -326,15 +332,15 @@ explored_fails touch opening limit positions after i n es (Cycle ms back) s w x 
 explored_fails touch opening limit positions after i n es (Memory e) s w x = tt
 
 pub explored_all : (touch : List Touch) (opening : List Cell) (limit : ℕ) (positions : List ℕ) (all result : List (List Edge))
-    (waiting : List ℕ) → Exploring touch opening limit positions all waiting → length waiting ≡ 0 → result ≡ all
+    (visits : List Visit) → Exploring touch opening limit positions all visits → ((i : ℕ) → i < length visits → visit_at visits i ≢ New) → result ≡ all
     → IsGraph touch opening positions result × (length positions ≤ limit)
-explored_all touch opening limit positions all result waiting s none is =
-    (subst (IsGraph touch opening positions) (sym is) (explore_end touch opening limit positions all waiting s none), s.few)
+explored_all touch opening limit positions all result visits s none is =
+    (subst (IsGraph touch opening positions) (sym is) (explore_end touch opening limit positions all visits s none), s.few)
 
 -- there are at most 3 to the number of places
 pub few_numbers : (touch : List Touch) (opening : List Cell) (limit places : ℕ) (positions : List ℕ) (edges : List (List Edge))
-    (waiting : List ℕ) → Exploring touch opening limit positions edges waiting → length opening ≡ places → length positions ≤ 3 ^ places
-few_numbers touch opening limit places positions edges waiting s e =
+    (visits : List Visit) → Exploring touch opening limit positions edges visits → length opening ≡ places → length positions ≤ 3 ^ places
+few_numbers touch opening limit places positions edges visits s e =
     let w = unpacked touch opening positions s.reachable in
     let long : length w.0 ≡ length positions = sym (length-map w.0 pack) ∙ ap length w.1 in
     let few = few_positions touch opening w.0 (apart w.0 positions w.1 s.once) w.2 in

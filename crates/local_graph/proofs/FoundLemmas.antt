@@ -1,5 +1,5 @@
 -- Positions in the order in which they were found.
-use Rattle.std.proofs.Common.{◌≡◌, ◌≢◌, ℕ, ◌+◌, ◌<◌, ◌≤◌, ◌⊎◌, inl, inr, arith, refl, sym, ap, ◌∙◌, List, [], ◌∷◌, ◌++◌, Bool, true, false, length, drop, get_or, if◌then◌else◌, nat_eq, subst, append_assoc, append-nil, length-append}
+use Rattle.std.proofs.Common.{◌≡◌, ◌≢◌, ℕ, ◌+◌, ◌<◌, ◌≤◌, ◌⊎◌, inl, inr, arith, refl, sym, ap, ◌∙◌, List, [], ◌∷◌, ◌++◌, Bool, true, false, cond, length, drop, get_or, if◌then◌else◌, nat_eq, subst, append_assoc, append-nil, length-append}
 use Rattle.std.specs.List.{AllPairs, Contains, list_any}
 use Rattle.std.proofs.lemmas.Bool.{cases_eq, cases_lt, both_ways, eq-eqb}
 use Rattle.std.proofs.Math.Seq.{drop-append_seam}
@@ -7,10 +7,14 @@ use Rattle.std.proofs.lemmas.List.{get_or_append_left, get_or_push, get_or_past,
 use Rattle.std.proofs.lemmas.List.Folds.{list_any_at}
 use Rattle.std.proofs.lemmas.List.Elements.{All-push, Contains-push, Contains-push_cases, Contains-append_left, Contains-get_or}
 use Rattle.std.proofs.lemmas.List.Quantifiers.{all_pairs_push}
+use Rattle.std.proofs.lemmas.List.Sums.{sum_by_push}
 use Rattle.local_play.specs.declared.local_move.LocalMove.{LocalMove}
 use Rattle.local_graph.specs.declared.graph.Edge.{Edge}
 use Rattle.local_graph.specs.declared.edge_lists.Span.{Span}
+use Rattle.local_graph.specs.declared.search.Visit.{Visit}
+use Rattle.local_graph.specs.declared.search.Visit.TheVariants.{New}
 use Rattle.local_graph.specs.inner.Graph.{part, lists_of, no_edges, AreWithin}
+use Rattle.local_graph.specs.inner.Searching.{is_new}
 use Rattle.local_graph.specs.LocalGraph.{IsEdgeOf, AreEdges}
 use Rattle.local_graph.specs.inner.Found.{Grows, AddsPositions, AreAwaited, edge_of}
 
@@ -160,49 +164,40 @@ pub one_behind : (first edges before after : List Edge) (e : Edge) → before �
     → after ≡ first ++ (edges ++ e ∷ [])
 one_behind first edges before after e is more = more ∙ ap (λ es. es ++ e ∷ []) is ∙ append_assoc first edges (e ∷ [])
 
--- one place more waits
-awaited_push : (all after : List (List Edge)) (waiting still : List ℕ) (after' : List (List Edge)) (still' : List ℕ) (place : ℕ)
-    → AreAwaited all waiting (length after) after still → place ≡ length after → still' ≡ still ++ place ∷ []
-    → after' ≡ after ++ [] ∷ [] → AreAwaited all waiting (length after') after' still'
-awaited_push all after waiting still after' still' place s at es ea = rw (es, ea) record {
-  long = refl;
-  lists = λ i. empty i ∙ s.lists i;
-  old = λ i h. Contains-append_left still (place ∷ []) i (s.old i h);
-  new = λ i low lt. elim (cases_eq i (length after)) [
-    | inl e ↦ subst (Contains (still ++ place ∷ [])) (at ∙ sym e) (Contains-push still place)
-    | inr ne ↦ Contains-append_left still (place ∷ []) i (s.new i low (omega (arith, lt, ne, long)))
-  ];
-  only = λ i h. elim (Contains-push_cases still place i h) [
-    | inl old ↦ elim (s.only i old) [ inl w ↦ inl w | inr lt ↦ inr (omega (arith, lt, long)) ]
-    | inr e ↦ inr (omega (arith, sym e, at, long))
-  ];
-  many = omega (arith, s.many, long, length_push still place);
-}
-  where
-    long : length (after ++ [] ∷ []) ≡ length after + 1
-    long = length_push after []
+-- one more of what stands for each past the last changes none
+default_push : {X : Type 0} (xs : List X) (d : X) (i : ℕ) → get_or (xs ++ d ∷ []) i d ≡ get_or xs i d
+default_push xs d i = elim (cases_lt i (length xs)) [
+  | inl lt ↦ get_or_append_left xs (d ∷ []) d i lt
+  | inr low ↦ elim (cases_eq i (length xs)) [
+    | inl e ↦ get_or_push xs d d i (sym e) ∙ sym (get_or_past xs i d low)
+    | inr ne ↦ get_or_past (xs ++ d ∷ []) i d (omega (arith, low, ne, length_push xs d)) ∙ sym (get_or_past xs i d low)
+  ]
+]
 
-    empty : (i : ℕ) → get_or (after ++ [] ∷ []) i [] ≡ get_or after i []
-    empty i = elim (cases_lt i (length after)) [
-      | inl lt ↦ get_or_append_left after ([] ∷ []) [] i lt
-      | inr low ↦ elim (cases_eq i (length after)) [
-        | inl e ↦ get_or_push after [] [] i (sym e) ∙ sym (get_or_past after i [] low)
-        | inr ne ↦ get_or_past (after ++ [] ∷ []) i [] (omega (arith, low, ne, long)) ∙ sym (get_or_past after i [] low)
-      ]
-    ]
+-- one place more is new
+awaited_push : (all after : List (List Edge)) (visits still : List Visit) (after' : List (List Edge)) (still' : List Visit)
+    → AreAwaited all visits (length after) after still → still' ≡ still ++ New ∷ []
+    → after' ≡ after ++ [] ∷ [] → AreAwaited all visits (length after') after' still'
+awaited_push all after visits still after' still' s es ea = rw (es, ea) record {
+  long = refl;
+  lists = λ i. default_push after [] i ∙ s.lists i;
+  seen = omega (arith, s.seen, length_push after [], length_push still New);
+  known = λ i. default_push still New i ∙ s.known i;
+  many = omega (arith, s.many, length_push after [], sum_by_push (λ v. cond (is_new v) 1 0) still New);
+}
 
 -- the same in the words of the code
-pub awaited_span : (edges : List Edge) (spans after after' : List Span) (waiting still still' : List ℕ) (place : ℕ)
-    → AreAwaited (lists_of edges spans) waiting (length after) (lists_of edges after) still → place ≡ length after
-    → still' ≡ still ++ place ∷ [] → after' ≡ after ++ no_edges ∷ []
-    → AreAwaited (lists_of edges spans) waiting (length after') (lists_of edges after') still'
-awaited_span edges spans after after' waiting still still' place w at es ea =
+pub awaited_span : (edges : List Edge) (spans after after' : List Span) (visits still still' : List Visit)
+    → AreAwaited (lists_of edges spans) visits (length after) (lists_of edges after) still
+    → still' ≡ still ++ New ∷ [] → after' ≡ after ++ no_edges ∷ []
+    → AreAwaited (lists_of edges spans) visits (length after') (lists_of edges after') still'
+awaited_span edges spans after after' visits still still' w es ea =
     let long = length-map after (part edges) in
     let more : lists_of edges after' ≡ lists_of edges after ++ [] ∷ [] =
     ap (lists_of edges) ea ∙ map-append (part edges) after (no_edges ∷ []) in
-    subst (λ n. AreAwaited (lists_of edges spans) waiting n (lists_of edges after') still') (length-map after' (part edges))
-    (awaited_push (lists_of edges spans) (lists_of edges after) waiting still (lists_of edges after') still' place
-    (subst (λ n. AreAwaited (lists_of edges spans) waiting n (lists_of edges after) still) (sym long) w) (at ∙ sym long) es more)
+    subst (λ n. AreAwaited (lists_of edges spans) visits n (lists_of edges after') still') (length-map after' (part edges))
+    (awaited_push (lists_of edges spans) (lists_of edges after) visits still (lists_of edges after') still'
+    (subst (λ n. AreAwaited (lists_of edges spans) visits n (lists_of edges after) still) (sym long) w) es more)
 
 pub within_empty : (count : ℕ) (spans after : List Span) → AreWithin count spans → after ≡ spans ++ no_edges ∷ [] → AreWithin count after
 within_empty count spans after within e =

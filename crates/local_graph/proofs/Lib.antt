@@ -19,3 +19,5 @@ pub mod TellingLemmas
 pub mod TellingSteps
 pub mod RankLemmas
 pub mod ReturnGraphLemmas
+pub mod WalkLemmas
+pub mod WalkSteps

@@ -18,13 +18,13 @@ use Rattle.local_graph.specs.inner.Graph.{edges_at, no_edge, edge_at}
 use Rattle.local_graph.specs.inner.Searching.{visit_at, nodes_of, EndsIn, GoesOn, Trail, IsPath, Searching, Returns, is_new, work_left}
 use Rattle.local_graph.proofs.PathLemmas.{last_frame, path_end, path_trail, trail_push}
 
-new_apart : (v : Visit) → v ≡ New → v ≡ OnPath → ⊥
+pub new_apart : (v : Visit) → v ≡ New → v ≡ OnPath → ⊥
 new_apart v a b = cc
 
-new_placed : (v : Visit) → v ≡ New → v ≡ Placed → ⊥
+pub new_placed : (v : Visit) → v ≡ New → v ≡ Placed → ⊥
 new_placed v a b = cc
 
-path_placed : (v : Visit) → v ≡ OnPath → v ≡ Placed → ⊥
+pub path_placed : (v : Visit) → v ≡ OnPath → v ≡ Placed → ⊥
 path_placed v a b = cc
 
 -- what is known of a node is of one that there is

@@ -10,3 +10,4 @@ pub mod SearchedFor
 pub mod Telling
 pub mod Ranks
 pub mod MadeWithReturns
+pub mod Walk

@@ -60,6 +60,7 @@ impl EdgeList {
     }
 
     /// Puts an edge behind the others.
+    #[inline(always)]
     pub fn push(&mut self, edge: &Edge) -> Result<(), AllocError>
         ensures behind { OnOk result (self.new ≡ self.old ++ edge.now ∷ []) }
         ensures same { OnErr result (self.new ≡ self.old) }

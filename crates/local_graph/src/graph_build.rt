@@ -1,6 +1,6 @@
-//! Building a graph: the positions are explored in the order in which they are found, and then put in an order.
+//! Building a graph: a walk finds the positions, their moves and, unless it meets a cycle, an order of them.
 
-ghost use Rattle.std.specs.Prelude.{ℕ, ◌≡◌, ◌≢◌, ◌+◌, ◌*◌, ◌^◌, ◌<◌, ◌≤◌, List, [], ◌++◌, length, drop, Contains, slice_index, IfOk, OnOk, IfSome, IfNone, MatchResult, alloc_error};
+ghost use Rattle.std.specs.Prelude.{ℕ, ◌≡◌, ◌≢◌, ◌+◌, ◌*◌, ◌^◌, ◌<◌, ◌≤◌, List, [], ◌++◌, length, drop, Contains, slice_index, count_by, IfOk, OnOk, IfSome, IfNone, MatchResult, alloc_error};
 ghost use Rattle.local_graph.specs.declared.graph.Edge.{Edge};
 ghost use Rattle.local_graph.specs.declared.graph_build.GraphError.TheVariants.{Memory};
 ghost use Rattle.std.specs.List.{AllPairs};
@@ -11,6 +11,8 @@ ghost use Rattle.local_play.specs.Packed.{pack};
 ghost use Rattle.local_graph.specs.Built.{Built};
 ghost use Rattle.local_graph.specs.inner.Built.{IsRooted};
 ghost use Rattle.local_graph.specs.inner.SearchedFor.{IsOrdered};
+ghost use Rattle.local_graph.specs.inner.Searching.{is_new};
+ghost use Rattle.local_graph.specs.LocalGraph.{IsOrderOfPlaces};
 ghost use Rattle.local_graph.specs.inner.Exploring.{IsExploring, Begun, Ended, IsPositionOn, EdgesFrom};
 ghost use Rattle.local_graph.specs.inner.Graph.{lists_of, AreWithin};
 ghost use Rattle.local_graph.specs.inner.Found.{Placed, edge_of, Explored, AreAwaited};
@@ -23,7 +25,8 @@ use crate::edges::EdgeList;
 use crate::graph::{Edge, Graph};
 use crate::numbers::{number_after, powers};
 use crate::place_table::{PlaceTable, threes};
-use crate::search::{Searched, search_from_opening};
+use crate::search::{Searched, Visit, search_from_opening};
+use crate::walk::Walk;
 use go_grid::Region;
 use local_play::{Links, Local, LocalMove, LocalMoves, MOST_PLACES, Steps, start};
 use std::alloc::{AllocError, AllocFailed, Global};
@@ -120,22 +123,18 @@ fn edge_of(step: &LocalMove, next: usize) -> Edge
     }
 }
 
-/// Puts the places from the number of spans on behind those that wait, and an empty span for each.
-fn await_new(
-    spans: &mut Vec<Span>,
-    waiting: &mut Vec<usize>,
-    count: usize,
-) -> Result<(), AllocError>
+/// Makes the places from the number of spans on new, with an empty span for each.
+fn await_new(spans: &mut Vec<Span>, visits: &mut Vec<Visit>, count: usize) -> Result<(), AllocError>
     requires { length spans.old.items ≤ count }
     ensures awaited { OnOk result ((edges : List Edge)
-        → AreAwaited (lists_of edges spans.old.items) waiting.old.items count
-        (lists_of edges spans.new.items) waiting.new.items) }
+        → AreAwaited (lists_of edges spans.old.items) visits.old.items count
+        (lists_of edges spans.new.items) visits.new.items) }
     ensures within { OnOk result ((edges : ℕ) → AreWithin edges spans.old.items
         → AreWithin edges spans.new.items) }
 {
     'awaiting: while spans.len() < count {
-        waiting.reserve(1)?;
-        waiting.push_reserved(spans.len());
+        visits.reserve(1)?;
+        visits.push_reserved(Visit::New);
         spans.reserve(1)?;
         spans.push_reserved(Span { start: 0, end: 0 });
     }
@@ -187,15 +186,15 @@ fn list_position<L: Ledger>(
     }
 }
 
-/// The edges that were found, the span of them that is each position's, and the places that wait for their edges.
+/// The edges that were found, the span of them that is each position's, and the walk that lists them.
 #[derive(Drop)]
 pub(crate) struct Exploration {
     edges: EdgeList,
     spans: Vec<Span>,
-    waiting: Vec<usize>,
+    walk: Walk,
 }
 
-/// The opening alone, which waits for its edges.
+/// The opening alone, which is still to be entered.
 fn begin(
     alloc: Global,
     region: &Region,
@@ -210,18 +209,23 @@ fn begin(
         result }
 {
     new_place(alloc, table, start(region), limit)?;
+    let walk = Walk::new(alloc)?;
     let mut found = Exploration {
         edges: EdgeList::new(alloc),
         spans: Vec::new(alloc),
-        waiting: Vec::new(alloc),
+        walk,
     };
-    await_new(&mut found.spans, &mut found.waiting, table.positions.len())?;
+    await_new(
+        &mut found.spans,
+        &mut found.walk.visits,
+        table.positions.len(),
+    )?;
     Ok(found)
 }
 
-/// Explores the positions that wait, and all that moves lead to from there. The position that was found last comes next, so
-/// that what stands side by side is used one after the other by the passes to come.
-fn explore_waiting<L: Ledger>(
+/// Explores the new positions, and all that moves lead to from there, depth first, so that what stands side by side is used one
+/// after the other by the passes to come.
+fn explore_new<L: Ledger>(
     alloc: Global,
     region: &Region,
     limit: u32,
@@ -232,7 +236,8 @@ fn explore_waiting<L: Ledger>(
     requires points { length region.now.points ≤ 32 }
     requires under_way { IsExploring region.now.touch region.now.cells limit
         (length region.now.points) table.old found.old }
-    requires all { length found.old.waiting.items ≡ length table.old.positions.items }
+    requires all { count_by is_new found.old.walk.visits.items
+        ≡ length table.old.positions.items }
     ensures ended { Ended region.now.touch region.now.cells limit table.new.positions.items
         found.new result }
     ensures limited { steps.new ≤ steps.old + limit }
@@ -241,8 +246,12 @@ fn explore_waiting<L: Ledger>(
 {
     let links = Links::of(region);
     let weights = powers();
-    'exploring: while let Some(place) = found.waiting.pop() {
-        let position = table.positions[place];
+    'exploring: loop {
+        let next = found.walk.next()?;
+        let Some(place) = next else {
+            return Ok(());
+        };
+        let position = table.positions[place as usize];
         let first = found.edges.len();
         list_position(
             alloc,
@@ -256,10 +265,21 @@ fn explore_waiting<L: Ledger>(
         )?;
         let end = found.edges.len();
         let span = Span::between(first, end)?;
-        found.spans[place] = span;
-        await_new(&mut found.spans, &mut found.waiting, table.positions.len())?;
+        found.spans[place as usize] = span;
+        await_new(
+            &mut found.spans,
+            &mut found.walk.visits,
+            table.positions.len(),
+        )?;
+        found.walk.enter(place, &found.edges.part(first, end))?;
     }
-    Ok(())
+}
+
+/// What exploring gives: the edges of each position, and an order of all with ends first unless the walk met a cycle.
+#[derive(Drop)]
+pub(crate) struct Walked {
+    pub(crate) edges: EdgeLists,
+    pub(crate) order: Option<Vec<u32>>,
 }
 
 /// All positions that are reachable, and their moves.
@@ -269,7 +289,7 @@ pub(crate) fn explore<L: Ledger>(
     limit: u32,
     table: &mut PlaceTable,
     steps: &mut Steps<L>,
-) -> Result<EdgeLists, GraphError>
+) -> Result<Walked, GraphError>
     requires points { length region.now.points ≤ 32 }
     requires table { IsPlaceTable table.old }
     requires none { table.old.positions.items ≡ [] }
@@ -282,8 +302,11 @@ pub(crate) fn explore<L: Ledger>(
         (λ _. steps.new ≡ steps.old + length table.new.positions.items) }
 {
     let mut found = begin(alloc, region, limit, table)?;
-    explore_waiting(alloc, region, limit, table, steps, &mut found)?;
-    Ok(EdgeLists::of(found.edges, found.spans))
+    explore_new(alloc, region, limit, table, steps, &mut found)?;
+    Ok(Walked {
+        edges: EdgeLists::of(found.edges, found.spans),
+        order: found.walk.into_order(),
+    })
 }
 
 /// The positions found, as a list alone: what finds their places is given back.
@@ -293,16 +316,21 @@ pub(crate) fn positions_of(table: PlaceTable) -> Vec<u64>
     table.positions
 }
 
-/// The graph of the positions and their edges, or a cycle.
+/// The graph of the positions and their edges, or a cycle. Where no order is given, a search finds which.
 fn order_graph(
     alloc: Global,
     positions: Vec<u64>,
     edges: EdgeLists,
+    order: Option<Vec<u32>>,
 ) -> Result<CompactGraph, GraphError>
     requires rooted { IsRooted edges }
     requires beside { length edges ≡ length positions.items }
+    requires ordered { IfSome order (λ o. IsOrderOfPlaces edges o.items) }
     ensures { IsOrdered positions.items edges result }
 {
+    if let Some(order) = order {
+        return Ok(CompactGraph::new(positions, edges, order));
+    }
     match search_from_opening(alloc, &edges)? {
         Searched::Order(order) => Ok(CompactGraph::new(positions, edges, order)),
         Searched::Cycle(moves, start) => Err(GraphError::Cycle(moves, start)),
@@ -328,8 +356,8 @@ pub fn build_compact<L: Ledger>(
         return Err(GraphError::Points(points as u16));
     }
     let mut found = PlaceTable::new(alloc, points);
-    let edges = explore(alloc, region, limit, &mut found, steps)?;
-    order_graph(alloc, positions_of(found), edges)
+    let walked = explore(alloc, region, limit, &mut found, steps)?;
+    order_graph(alloc, positions_of(found), walked.edges, walked.order)
 }
 
 /// What `build_compact` builds, with edges at full length.

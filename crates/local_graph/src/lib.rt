@@ -21,6 +21,7 @@ mod search;
 mod short_edge;
 mod soonest_cycles;
 mod strong_components;
+mod walk;
 
 pub use compact_graph::CompactGraph;
 pub use cycle::{CycleList, CycleMove};

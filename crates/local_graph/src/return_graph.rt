@@ -1,8 +1,9 @@
 //! Graphs of regions in which moves may return: which of them do, and for each colour an order with ends first in which its
 //! returning captures are left out.
 
-ghost use Rattle.std.specs.Prelude.{◌≡◌, ◌+◌, ◌^◌, ◌<◌, ◌≤◌, ◌↔◌, length, false, None, IsTrue, IfOk};
+ghost use Rattle.std.specs.Prelude.{◌≡◌, ◌+◌, ◌^◌, ◌<◌, ◌≤◌, ◌↔◌, length, false, None, IsTrue, IfOk, IfSome};
 ghost use Rattle.local_graph.specs.BuiltWithReturns.{BuiltWithReturns};
+ghost use Rattle.local_graph.specs.LocalGraph.{IsOrderOfPlaces};
 ghost use Rattle.local_graph.specs.ReturnGraph.{StaysIn, IsReturningCaptureAt, order_for};
 ghost use Rattle.local_graph.specs.inner.Built.{IsRooted};
 ghost use Rattle.local_graph.specs.inner.MadeWithReturns.{IsMadeOf, AreReturning};
@@ -13,7 +14,7 @@ use crate::graph::Edge;
 use crate::graph_build::{GraphError, explore, positions_of};
 use crate::place_table::PlaceTable;
 use crate::return_orders::order_between_captures;
-use crate::search::order_from_opening;
+use crate::search::order_or_search;
 use crate::strong_components::strong_components;
 use go_grid::{Colour, Region};
 use local_play::Steps;
@@ -128,12 +129,14 @@ fn tell_returns(
     alloc: Global,
     positions: Vec<u64>,
     edges: EdgeLists,
+    order: Option<Vec<u32>>,
 ) -> Result<ReturnGraph, AllocError>
     requires rooted { IsRooted edges }
     requires beside { length edges ≡ length positions.items }
+    requires ordered { IfSome order (λ o. IsOrderOfPlaces edges o.items) }
     ensures { IfOk result (IsMadeOf positions.items edges) }
 {
-    if let Some(order) = order_from_opening(alloc, &edges)? {
+    if let Some(order) = order_or_search(alloc, &edges, order)? {
         return Ok(ReturnGraph {
             graph: CompactGraph::new(positions, edges, order),
             returning: None,
@@ -165,7 +168,7 @@ pub fn build_with_returns<L: Ledger>(
         return Err(GraphError::Points(points as u16));
     }
     let mut found = PlaceTable::new(alloc, points);
-    let edges = explore(alloc, region, limit, &mut found, steps)?;
-    let graph = tell_returns(alloc, positions_of(found), edges)?;
+    let walked = explore(alloc, region, limit, &mut found, steps)?;
+    let graph = tell_returns(alloc, positions_of(found), walked.edges, walked.order)?;
     Ok(graph)
 }

@@ -1,6 +1,6 @@
 //! Depth-first search: an order with ends first, or a cycle.
 
-ghost use Rattle.std.specs.Prelude.{◌≡◌, ℕ, ◌^◌, ◌<◌, ◌≤◌, [], ◌∷◌, ◌++◌, length, map, slice_set, slice_index, slice_index_or, IfOk, OnOk, Contains, MatchOption};
+ghost use Rattle.std.specs.Prelude.{◌≡◌, ℕ, ◌^◌, ◌<◌, ◌≤◌, [], ◌∷◌, ◌++◌, length, map, slice_set, slice_index, slice_index_or, IfOk, IfSome, OnOk, Contains, MatchOption};
 ghost use Rattle.local_graph.specs.inner.Built.{IsRooted, move_of};
 ghost use Rattle.local_graph.specs.LocalGraph.{IsOrderOfPlaces};
 ghost use Rattle.local_graph.specs.inner.MadeWithReturns.{HasWayBack};
@@ -17,10 +17,10 @@ use crate::narrow::narrow;
 use crate::soonest_cycles::soonest_cycle;
 use std::alloc::{AllocError, Global};
 
-/// What the search knows of a position.
+/// What a depth-first search knows of a position.
 #[derive(Clone, Copy)]
 pub(crate) enum Visit {
-    /// It was not met.
+    /// It was not entered.
     New,
     /// It is on the path from the opening.
     OnPath,
@@ -256,10 +256,7 @@ pub(crate) fn search_from_opening(alloc: Global, edges: &EdgeLists) -> Result<Se
 }
 
 /// An order of all positions in which each edge leads to an earlier one, if there is no cycle.
-pub(crate) fn order_from_opening(
-    alloc: Global,
-    edges: &EdgeLists,
-) -> Result<Option<Vec<u32>>, AllocError>
+fn order_from_opening(alloc: Global, edges: &EdgeLists) -> Result<Option<Vec<u32>>, AllocError>
     requires { IsRooted edges.now }
     ensures { IfOk result (λ found. MatchOption found (HasWayBack edges.now)
         (λ order. IsOrderOfPlaces edges.now order.items)) }
@@ -271,5 +268,22 @@ pub(crate) fn order_from_opening(
             Progress::Back(_node) => return Ok(None),
             Progress::Done => return Ok(Some(search.order)),
         }
+    }
+}
+
+/// The order that was found, or one that a search finds, if there is no cycle.
+pub(crate) fn order_or_search(
+    alloc: Global,
+    edges: &EdgeLists,
+    order: Option<Vec<u32>>,
+) -> Result<Option<Vec<u32>>, AllocError>
+    requires rooted { IsRooted edges.now }
+    requires ordered { IfSome order (λ o. IsOrderOfPlaces edges.now o.items) }
+    ensures { IfOk result (λ found. MatchOption found (HasWayBack edges.now)
+        (λ o. IsOrderOfPlaces edges.now o.items)) }
+{
+    match order {
+        Some(order) => Ok(Some(order)),
+        None => order_from_opening(alloc, edges),
     }
 }

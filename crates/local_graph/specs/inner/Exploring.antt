@@ -1,5 +1,5 @@
 -- What exploring has come to.
-use Rattle.std.specs.Prelude.{◌≡◌, ◌≢◌, ℕ, ◌^◌, ◌<◌, ◌≤◌, List, [], length, slice_index, slice_index_or, Contains, Result, Ok, Err}
+use Rattle.std.specs.Prelude.{◌≡◌, ◌≢◌, ℕ, ◌^◌, ◌<◌, ◌≤◌, List, [], length, slice_index, slice_index_or, Contains, false, count_by, Result, Ok, Err}
 use Rattle.std.specs.List.{AllPairs}
 use Rattle.go_grid.specs.declared.grid.Cell.{Cell}
 use Rattle.go_grid.specs.declared.region.Touch.{Touch}
@@ -13,46 +13,56 @@ use Rattle.local_graph.specs.declared.graph_build.Exploration.{Exploration}
 use Rattle.local_graph.specs.declared.graph_build.GraphError.{GraphError}
 use Rattle.local_graph.specs.declared.graph_build.GraphError.TheVariants.{Points, Positions, Cycle, Memory}
 use Rattle.local_graph.specs.declared.place_table.PlaceTable.{PlaceTable}
-use Rattle.local_graph.specs.LocalGraph.{IsReachable, HasMoves, IsGraph}
+use Rattle.local_graph.specs.declared.search.Visit.{Visit}
+use Rattle.local_graph.specs.declared.search.Visit.TheVariants.{New}
+use Rattle.local_graph.specs.declared.walk.Task.{Task}
+use Rattle.local_graph.specs.LocalGraph.{IsReachable, HasMoves, IsGraph, IsOrderOfPlaces}
 use Rattle.local_graph.specs.inner.Found.{EdgesFor, Explored}
 use Rattle.local_graph.specs.inner.Graph.{lists_of, AreWithin}
 use Rattle.local_graph.specs.inner.PlaceTable.{IsPlaceTable}
+use Rattle.local_graph.specs.inner.Searching.{visit_at, is_new}
+use Rattle.local_graph.specs.inner.Walk.{WalksWith}
 
 -- each number is that of a reachable position
 abbrev pub AreReachable : List Touch → List Cell → List ℕ → Type 0
 AreReachable touch opening ns = (n : ℕ) → Contains ns n → (cells : List Cell) × IsReachable touch opening cells × (n ≡ pack cells)
 
--- the positions so far, each with its edges or waiting
-pub record Exploring (touch : List Touch) (opening : List Cell) (limit : ℕ) (positions : List ℕ) (edges : List (List Edge)) (waiting : List ℕ) : Type 0 where
+-- the positions so far, each with its edges or new
+pub record Exploring (touch : List Touch) (opening : List Cell) (limit : ℕ) (positions : List ℕ) (edges : List (List Edge)) (visits : List Visit) : Type 0 where
   pub some : 0 < length positions
   pub first : slice_index positions 0 ≡ pack opening
   pub once : AllPairs (λ a b. a ≢ b) positions
   pub few : length positions ≤ limit
   pub reachable : AreReachable touch opening positions
   pub beside : length edges ≡ length positions
-  pub inside : (i : ℕ) → Contains waiting i → i < length positions
-  pub moves : (i : ℕ) (cells : List Cell) → i < length positions → ¬ Contains waiting i → IsReachable touch opening cells
+  pub seen : length visits ≡ length positions
+  pub moves : (i : ℕ) (cells : List Cell) → i < length positions → visit_at visits i ≢ New → IsReachable touch opening cells
       → slice_index positions i ≡ pack cells → HasMoves touch cells positions (slice_index_or edges i [])
 
--- the table has the positions so far, which are of a region of so many places
-pub record IsExploring (touch : List Touch) (opening : List Cell) (limit places : ℕ) (t : PlaceTable) (found : Exploration) : Type 0 where
+-- the table has the positions so far, which are of a region of so many places, and the walk goes on with these tasks
+pub record IsExploringWith (touch : List Touch) (opening : List Cell) (limit places : ℕ) (t : PlaceTable) (found : Exploration) (tasks : List Task) : Type 0 where
   pub full : length opening ≡ places
   pub table : IsPlaceTable t
   pub numbers : t.numbers ≡ 3 ^ places
-  pub so_far : Exploring touch opening limit t.positions.items (lists_of found.edges found.spans.items) found.waiting.items
+  pub so_far : Exploring touch opening limit t.positions.items (lists_of found.edges found.spans.items) found.walk.visits.items
   pub within : AreWithin (length found.edges) found.spans.items
+  pub walk : WalksWith (lists_of found.edges found.spans.items) found.walk tasks
 
--- the opening was found, and waits
+abbrev pub IsExploring : List Touch → List Cell → ℕ → ℕ → PlaceTable → Exploration → Type 0
+IsExploring touch opening limit places t found = IsExploringWith touch opening limit places t found found.walk.tasks.items
+
+-- the opening was found, and is new
 abbrev pub Begun : List Touch → List Cell → ℕ → ℕ → PlaceTable → Result Exploration GraphError → Type 0
 Begun touch opening limit places table (Ok found) =
-    IsExploring touch opening limit places table found × (length found.waiting.items ≡ length table.positions.items)
+    IsExploring touch opening limit places table found × (count_by is_new found.walk.visits.items ≡ length table.positions.items)
 Begun touch opening limit places table (Err e) = Explored touch opening limit table.positions.items (Err e)
 
--- nothing waits any more, or more positions are reachable than the limit
+-- no position is new any more, or more positions are reachable than the limit
 abbrev pub Ended : List Touch → List Cell → ℕ → List ℕ → Exploration → Result (Unit {0}) GraphError → Type 0
 Ended touch opening limit positions found (Ok done) =
     IsGraph touch opening positions (lists_of found.edges found.spans.items) × (length positions ≤ limit)
     × AreWithin (length found.edges) found.spans.items
+    × (found.walk.has_cycle ≡ false → IsOrderOfPlaces (lists_of found.edges found.spans.items) found.walk.order.items)
 Ended touch opening limit positions found (Err e) = Explored touch opening limit positions (Err e)
 
 -- the links are those of a region of at most 32 places, and the number is that of a position of it, which has one of so many numbers in base 3

@@ -1,5 +1,5 @@
 -- What exploring keeps: the positions found so far, as numbers, and their edges.
-use Rattle.std.specs.Prelude.{◌≡◌, ◌≢◌, ℕ, ◌+◌, ◌<◌, ◌≤◌, ◌⊎◌, List, [], ◌∷◌, ◌++◌, length, slice_index, slice_index_or, Contains, Result, Ok, Err}
+use Rattle.std.specs.Prelude.{◌≡◌, ◌≢◌, ℕ, ◌+◌, ◌<◌, ◌≤◌, ◌⊎◌, List, [], ◌∷◌, ◌++◌, length, slice_index, slice_index_or, Contains, count_by, IfSome, Result, Ok, Err}
 use Rattle.std.specs.List.{AllPairs}
 use Rattle.go_grid.specs.declared.grid.Cell.{Cell}
 use Rattle.go_grid.specs.declared.region.Touch.{Touch}
@@ -7,7 +7,10 @@ use Rattle.local_play.specs.declared.local_move.LocalMove.{LocalMove}
 use Rattle.local_graph.specs.declared.graph.Edge.{Edge}
 use Rattle.local_graph.specs.declared.graph_build.GraphError.{GraphError}
 use Rattle.local_graph.specs.declared.graph_build.GraphError.TheVariants.{Points, Positions, Cycle, Memory}
-use Rattle.local_graph.specs.LocalGraph.{AreEdges, IsGraph, MoreThan}
+use Rattle.local_graph.specs.declared.graph_build.Walked.{Walked}
+use Rattle.local_graph.specs.declared.search.Visit.{Visit}
+use Rattle.local_graph.specs.LocalGraph.{AreEdges, IsGraph, IsOrderOfPlaces, MoreThan}
+use Rattle.local_graph.specs.inner.Searching.{visit_at, is_new}
 
 -- the number is among the positions afterwards, last where it was not there
 abbrev pub Grows : List ℕ → ℕ → List ℕ → Type 0
@@ -41,18 +44,18 @@ EdgesFor before moves limit after edges (Err (Points p)) = ⊥
 EdgesFor before moves limit after edges (Err (Cycle ms back)) = ⊥
 EdgesFor before moves limit after edges (Err (Memory e)) = Unit {0}
 
--- each place from the number of lists on waits behind those that wait, with an empty list
-pub record AreAwaited (all : List (List Edge)) (waiting : List ℕ) (count : ℕ) (after : List (List Edge)) (still : List ℕ) : Type 0 where
+-- each place from the number of lists on is new, with an empty list
+pub record AreAwaited (all : List (List Edge)) (visits : List Visit) (count : ℕ) (after : List (List Edge)) (still : List Visit) : Type 0 where
   pub long : length after ≡ count
   pub lists : (i : ℕ) → slice_index_or after i [] ≡ slice_index_or all i []
-  pub old : (i : ℕ) → Contains waiting i → Contains still i
-  pub new : (i : ℕ) → length all ≤ i → i < count → Contains still i
-  pub only : (i : ℕ) → Contains still i → Contains waiting i ⊎ (i < count)
-  pub many : length still + length all ≡ length waiting + count
+  pub seen : length still + length all ≡ length visits + count
+  pub known : (i : ℕ) → visit_at still i ≡ visit_at visits i
+  pub many : count_by is_new still + length all ≡ count_by is_new visits + count
 
--- the whole graph, or that more positions are reachable than the limit
-abbrev pub Explored : List Touch → List Cell → ℕ → List ℕ → Result (List (List Edge)) GraphError → Type 0
-Explored touch opening limit positions (Ok edges) = IsGraph touch opening positions edges × (length positions ≤ limit)
+-- the whole graph, with an order or none, or that more positions are reachable than the limit
+abbrev pub Explored : List Touch → List Cell → ℕ → List ℕ → Result Walked GraphError → Type 0
+Explored touch opening limit positions (Ok walked) = IsGraph touch opening positions walked.edges × (length positions ≤ limit)
+    × IfSome walked.order (λ order. IsOrderOfPlaces walked.edges order.items)
 Explored touch opening limit positions (Err Positions) = MoreThan touch opening limit
 Explored touch opening limit positions (Err (Points p)) = ⊥
 Explored touch opening limit positions (Err (Cycle ms back)) = ⊥

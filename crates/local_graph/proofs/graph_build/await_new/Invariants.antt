@@ -6,7 +6,7 @@ use Rattle.local_graph.proofs.graph_build.await_new.Given as goal
 
 abbrev pub invariant-awaiting : goal.invariant-awaiting
 invariant-awaiting l = record {
-  awaited : (edges : List Edge) → AreAwaited (lists_of edges l.fn.spans.items) l.fn.waiting.items (length l.spans.items) (lists_of edges l.spans.items) l.waiting.items;
+  awaited : (edges : List Edge) → AreAwaited (lists_of edges l.fn.spans.items) l.fn.visits.items (length l.spans.items) (lists_of edges l.spans.items) l.visits.items;
   within : (edges : ℕ) → AreWithin edges l.fn.spans.items → AreWithin edges l.spans.items;
   most : length l.spans.items ≤ l.count;
 }

@@ -11,7 +11,10 @@ overflow_cast-result g c =
     omega (arith, most, c.len-points.ensures, s.points.ok)
 
 pub tell_returns-requires-clause-rooted : goal.tell_returns-requires-clause-rooted
-tell_returns-requires-clause-rooted g c = rooted _ _ _ _ c.in_ok-edges.ensures.graph.0
+tell_returns-requires-clause-rooted g c = rooted _ _ _ _ c.in_ok-walked.ensures.graph.0
+
+pub tell_returns-requires-clause-ordered : goal.tell_returns-requires-clause-ordered
+tell_returns-requires-clause-ordered g c = c.in_ok-walked.ensures.graph.2
 
 pub returns-clause-built : goal.returns-clause-built
 returns-clause-built g c =
@@ -19,7 +22,8 @@ returns-clause-built g c =
     let cells = ap (λ s. length s.cells) c.shape.view_is in
     let few : length c.args.region.now.points ≤ 32 = omega (arith, c.if-points-gt32.false, c.len-points.ensures, points) in
     let full : length c.args.region.now.cells ≡ length c.args.region.now.points = omega (arith, c.shape.invariant.full, points, cells) in
-    built_with_returns _ _ _ (length c.args.region.now.points) _ _ _ _ c.in_ok-edges.ensures.graph few full c.positions_of.ensures c.in_ok-graph.ensures
+    let graph = c.in_ok-walked.ensures.graph in
+    built_with_returns _ _ _ (length c.args.region.now.points) _ _ _ _ (graph.0, graph.1) few full c.positions_of.ensures c.in_ok-graph.ensures
 
 pub returns-clause-exact : goal.returns-clause-exact
-returns-clause-exact g c = omega (arith, c.in_ok-edges.ensures.exact, ap length (c.in_ok-graph.ensures.positions_are ∙ c.positions_of.ensures))
+returns-clause-exact g c = omega (arith, c.in_ok-walked.ensures.exact, ap length (c.in_ok-graph.ensures.positions_are ∙ c.positions_of.ensures))
