@@ -1,14 +1,15 @@
 -- What is remembered, as the tables grow.
-use Rattle.std.proofs.Common.{◌≡◌, ℤ, ℕ, ◌-◌, ◌<◌, ◌≤◌, inl, arith, refl, sym, ap, ap₂, ◌∙◌, subst, List, [], ◌∷◌, ◌++◌, length, map, take, drop, get_or, length-drop, length-append}
+use Rattle.std.proofs.Common.{◌≡◌, ℤ, ℕ, ◌+◌, ◌-◌, ◌<◌, ◌≤◌, inl, inr, arith, refl, sym, ap, ap₂, ◌∙◌, subst, List, [], ◌∷◌, ◌++◌, length, map, take, drop, get_or, length-drop, length-append}
 use Rattle.std.specs.Prelude.{slice_range, Contains, All}
 use Rattle.std.proofs.lemmas.List.{take_all, take-append-le, drop-append-le, drop_at, map_push, get_or-map, length-map}
-use Rattle.std.proofs.lemmas.List.Elements.{All-head, All-tail, Contains-push_cases}
+use Rattle.std.proofs.lemmas.List.Elements.{All-head, All-push, All-tail, Contains-push_cases}
 use Rattle.short_games.specs.Tree.{Tree}
 use Rattle.local_value.specs.declared.form_table.KnownForm.{KnownForm}
 use Rattle.local_value.specs.declared.memo.Memo.{Memo}
 use Rattle.local_value.specs.Remembered.{IsRememberedRight}
 use Rattle.local_value.specs.inner.Memo.{IsMemoRight, remembered}
-use Rattle.local_value.specs.inner.Tables.{known_form, known_sum, Learns}
+use Rattle.local_value.specs.inner.OptionSets.{HasNoRepeats}
+use Rattle.local_value.specs.inner.Tables.{known_form, known_sum, AreListedOnce, IsFormTable, Learns}
 use Rattle.local_value.specs.declared.sum_table.KnownSum.{KnownSum}
 
 abbrev pub AreInside : ℕ → List KnownForm → Type 0
@@ -47,6 +48,40 @@ module _ (pool options pool' : List ℕ) (forms forms' : List KnownForm) (before
       let all : map (known_form pool') forms' ≡ before ++ (options, f.id) ∷ [] =
       ap (map (known_form pool')) one ∙ map_push (known_form pool') forms f ∙ ap₂ (λ ls l. ls ++ (l, f.id) ∷ []) same list in
       Contains-push_cases before (options, f.id) x (subst (λ l. Contains l x) all h)
+
+-- no list has repeats where one without is learned
+once_learned : (before now : List (List ℕ × ℕ)) (options : List ℕ) (id : ℕ) → Learns before (options, id) now → HasNoRepeats options
+    → AreListedOnce before → AreListedOnce now
+once_learned before now options id learns once old os i h = elim (learns (os, i) h) [
+  | inl x ↦ old os i x
+  | inr e ↦ subst (λ (k : List ℕ × ℕ). HasNoRepeats k.0) e once
+]
+
+-- the table as it grows
+module _ (pool options pool' : List ℕ) (forms forms' : List KnownForm) (places places' : ℕ) (w : IsFormTable places forms pool)
+    (grown : pool' ≡ pool ++ options) (once : HasNoRepeats options) where
+  further : AreInside (length pool') forms
+  further k d lt = (let (a, b) = w.within k d lt in (a, omega (arith, b, ap length grown, length-append pool options)))
+
+  -- by options alone
+  pub table_none : places' ≡ places → forms' ≡ forms → IsFormTable places' forms' pool'
+  table_none same none = record {
+    count = same ∙ w.count ∙ sym (ap length none);
+    within = subst (AreInside (length pool')) (sym none) further;
+    once = once_learned (map (known_form pool) forms) (map (known_form pool') forms') options 0
+        (learns_none pool options pool' forms forms' (map (known_form pool) forms) w.within grown refl (options, 0) none) once w.once;
+  }
+
+  -- by one form
+  pub table_one : places' ≡ places + 1 → (f : KnownForm) → forms' ≡ forms ++ f ∷ [] → f.start ≡ length pool → f.end ≡ length pool'
+      → IsFormTable places' forms' pool'
+  table_one more f one from to = record {
+    count = omega (arith, more, w.count, ap length one, length-append forms (f ∷ []));
+    within = subst (AreInside (length pool')) (sym one) (All-push (λ g. (g.start ≤ g.end) × (g.end ≤ length pool')) forms f further
+        (omega (arith, from, to, ap length grown, length-append pool options), omega (arith, to)));
+    once = once_learned (map (known_form pool) forms) (map (known_form pool') forms') options f.id
+        (learns_one pool options pool' forms forms' (map (known_form pool) forms) w.within grown refl f one from to) once w.once;
+  }
 
 -- the form at a place, where its options are these
 pub form_found : (pool options : List ℕ) (forms : List KnownForm) (before : List (List ℕ × ℕ)) (place : ℕ) (f : KnownForm)

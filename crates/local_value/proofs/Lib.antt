@@ -6,6 +6,7 @@ pub mod ExchangeLaws
 pub mod KnownLemmas
 pub mod OptionNumberLemmas
 pub mod OptionsLaws
+pub mod OptionSetLemmas
 pub mod UndominatedLemmas
 pub mod PassLaws
 pub mod LayerLaws

@@ -1,5 +1,5 @@
 -- The options of a position as one list of numbers.
-use Rattle.std.proofs.Common.{◌≡◌, ℕ, ◌+◌, ◌*◌, ◌/◌, ◌%◌, ◌<◌, inl, inr, suc, zero, arith, sym, ap, ◌∙◌, ◌⊎◌, List, [], ◌∷◌, ◌++◌, length, get_or, take, Option, None, Some, cond, nat_eq}
+use Rattle.std.proofs.Common.{◌≡◌, ℕ, ◌+◌, ◌*◌, ◌/◌, ◌%◌, ◌<◌, inl, inr, suc, zero, arith, refl, sym, ap, ◌∙◌, ◌⊎◌, List, [], ◌∷◌, ◌++◌, length, get_or, take, Option, None, Some, cond, nat_eq}
 use Rattle.std.specs.Prelude.{Contains}
 use Rattle.std.specs.List.{cons_option}
 use Rattle.std.proofs.lemmas.Bool.{eq-eqb, eqb-true, cases_Bool}
@@ -9,19 +9,11 @@ use Rattle.std.proofs.lemmas.List.{append-nil, take_more}
 use Rattle.go_grid.specs.declared.grid.Colour.{Colour}
 use Rattle.go_grid.specs.declared.grid.Colour.TheVariants.{Black, White}
 use Rattle.local_value.specs.Remembered.{side, option_for, options_of}
-use Rattle.local_value.specs.inner.Options.{IsAdded}
 
 -- the number of the player's option gives its id
 its : (c : Colour) (id o : ℕ) → o ≡ 2 * id + side c → option_for c o ≡ Some id
 its Black id o is = ap (λ t. cond t (Some (o / 2)) None) (eq-eqb (o % 2) 0 (omega (arith, is))) ∙ ap Some (omega (arith, is))
 its White id o is = ap (λ t. cond t (Some (o / 2)) None) (eq-eqb (o % 2) 1 (omega (arith, is))) ∙ ap Some (omega (arith, is))
-
--- the number of the other's gives none
-none : (c : Colour) (o : ℕ) → (o % 2 ≡ side c → ⊥) → option_for c o ≡ None
-none c o other = elim (cases_Bool (nat_eq (o % 2) (side c))) [
-  | inl t ↦ absurd (other (eqb-true (o % 2) (side c) t))
-  | inr f ↦ ap (λ t. cond t (Some (o / 2)) None) f
-]
 
 -- an id is that of its number alone
 number : (c : Colour) (o i : ℕ) → option_for c o ≡ Some i → o ≡ 2 * i + side c
@@ -36,16 +28,12 @@ number c o i is = elim (cases_Bool (nat_eq (o % 2) (side c))) [
 pushed : (c : Colour) (os : List ℕ) (o : ℕ) → options_of c (os ++ o ∷ []) ≡ options_of c os ++ cons_option (option_for c o) []
 pushed c os o = filter_map-append (option_for c) os (o ∷ [])
 
--- an option is added to its player's alone
-pub added : (c : Colour) (id o : ℕ) (before now : List ℕ) → o ≡ 2 * id + side c → now ≡ before ++ o ∷ [] → IsAdded c id before now
-added Black id o before now is grown = rw grown (
-  pushed Black before o ∙ ap (λ x. options_of Black before ++ cons_option x []) (its Black id o is),
-  pushed White before o ∙ ap (λ x. options_of White before ++ cons_option x []) (none White o (λ e. omega (arith, is, e))) ∙ append-nil (options_of White before),
-)
-added White id o before now is grown = rw grown (
-  pushed Black before o ∙ ap (λ x. options_of Black before ++ cons_option x []) (none Black o (λ e. omega (arith, is, e))) ∙ append-nil (options_of Black before),
-  pushed White before o ∙ ap (λ x. options_of White before ++ cons_option x []) (its White id o is),
-)
+-- the number of an option tells its player and its id
+pub one_option : (c d : Colour) (i j : ℕ) → 2 * i + side c ≡ 2 * j + side d → (c ≡ d) × (i ≡ j)
+one_option Black Black i j e = (refl, omega (arith, e))
+one_option Black White i j e = absurd (omega (arith, e))
+one_option White Black i j e = absurd (omega (arith, e))
+one_option White White i j e = (refl, omega (arith, e))
 
 either : (o : Option ℕ) (rest : List ℕ) (i : ℕ) → Contains (cons_option o rest) i → (o ≡ Some i) ⊎ Contains rest i
 either None rest i h = inr h

@@ -1,11 +1,11 @@
 -- What is remembered, the ids after the edges of a place as the store grows, and the form of those ids.
 use Rattle.std.proofs.Common.{ℕ, ◌+◌, ◌/◌, ◌%◌, ◌^◌, ◌≡◌, ◌<◌, ◌↔◌, arith, inl, inr, sym, ap, ap₂, get_or, subst, ◌∙◌, List, [], length, Result, ℤ, ◌+ℤ◌, ◌≤◌, to_z, of_z, w32, ◌*◌, refl, pos, neg_ℤ, ◌*ℤ◌, ◌∷◌, ◌++◌, take, Contains, unsigned_abs, IfOk, IfErr}
-use Rattle.game_store.proofs.EntryLaws.{pick-same, has-pick, pick-has, push_one}
+use Rattle.game_store.proofs.EntryLaws.{pick-same, has-pick, pick-has}
 use Rattle.std.proofs.lemmas.Bool.{cases_lt}
 use Rattle.std.proofs.lemmas.Int.{to_z-of_z, fits_signed_from_abs, ints}
 use Rattle.game_canon.specs.FormComparisons.{answer_of}
 use Rattle.game_canon.proofs.CanonicalFormLaws.{right-grown}
-use Rattle.local_value.proofs.OptionNumberLemmas.{among_ids, numbered, listed as listed_in}
+use Rattle.local_value.proofs.OptionNumberLemmas.{among_ids, numbered, one_option, listed as listed_in}
 use Rattle.short_games.specs.Tree.{Tree, node, left, right, tree_at, none, Has}
 use Rattle.short_games.specs.Sum.{◌+ᵍ◌}
 use Rattle.short_games.specs.TextOrder.{IsCanonicalFor}
@@ -15,7 +15,8 @@ use Rattle.short_games.specs.Parts.{HasMoreParts, IsNumberOf, IsOption}
 use Rattle.game_canon.specs.Outcomes.{IsCanonicalId, AreWithin, AreOptionsWithin, IsCause}
 use Rattle.local_value.specs.declared.memo.Forms.{Forms}
 use Rattle.local_value.specs.Remembered.{side as side_of, options_of, stones_units, IsStonesSum, AreStonesSumsRight, IsFormOfOptions, IsFormOf, AreKnownRight}
-use Rattle.local_value.specs.inner.Options.{IsAdded, IsNoBetter, AreEnough}
+use Rattle.local_value.specs.inner.Options.{IsNoBetter, AreEnough}
+use Rattle.local_value.specs.inner.OptionSets.{IsWith}
 use Rattle.local_value.specs.inner.Tables.{Learns}
 use Rattle.local_value.specs.inner.Memo.{AreFormsRight}
 use Rattle.go_grid.specs.declared.grid.Colour.{Colour}
@@ -29,7 +30,7 @@ use Rattle.game_players.specs.Players.{credit, gain, options}
 use Rattle.game_canon.proofs.ChangedIdLaws.{extends-on}
 use Rattle.game_canon.proofs.NumberPartLaws.{sum-fits, same-sum}
 use Rattle.local_value.specs.inner.Valuing.{noted, IsWithinAfter, IsAfter, most_units, IsNoted, tree_after, AreWithinAfter, AreAfter, AreBothAfter, HasEdges}
-use Rattle.std.proofs.lemmas.List.{get_or_default, length-append, get_or_append_left, get_or_push, take_all, take_more}
+use Rattle.std.proofs.lemmas.List.{get_or_default, take_all, take_more}
 use Rattle.std.proofs.lemmas.List.Elements.{Contains-append_left, Contains-get_or, Contains-push, Contains-push_cases}
 use Rattle.local_graph.specs.inner.Graph.{no_edge}
 use Rattle.short_games.specs.Order.{◌≤ᵍ◌, ◌≡ᵍ◌}
@@ -211,16 +212,6 @@ module _ {Ts Us : List Tree} {ids : List ℕ} {c : Colour} {es : List Edge} {n :
   edge_among : Contains es e
   edge_among = Contains-get_or es n no_edge among
 
-  listing-skip : {Vs : List Tree} → Extends Us Vs → (e.colour ≡ c → ⊥) → IsListing Ts Vs ids c es (n + 1) afters
-  listing-skip {Vs} x other =
-      let old = all-kept x w.so_far in record {
-        kept = extends-on Ts Us Vs w.kept x;
-        so_far = subst (λ z. AreAfter Ts Vs ids c z afters) (sym next) record {
-          from = λ j lt. (let f = old.from j lt in (f.0, Contains-append_left (take n es) (e ∷ []) f.0 f.1, f.2, f.3));
-          to = λ d h s. elim (Contains-push_cases (take n es) e d h) [ inl i ↦ old.to d i s | inr i ↦ absurd (other (ap (λ z. z.colour) i ∙ s)) ];
-        };
-      }
-
   module _ (noted : (d : Edge) → Contains es d → IsNoted Ts ids d.next) where
     pub step-noted : IsNoted Us ids e.next
     step-noted = (noted-kept w.kept ids e.next (noted e edge_among)).0
@@ -228,42 +219,53 @@ module _ {Ts Us : List Tree} {ids : List ℕ} {c : Colour} {es : List Edge} {n :
     pub step-within : (b : ℕ) → AreWithinAfter b Ts ids es → IsWithinAfter b Us ids e
     step-within b small = within-on w.kept ids e b (noted e edge_among) (small e edge_among)
 
-    listing-push : {Vs : List Tree} (id : ℕ) → e.colour ≡ c → Extends Us Vs → IsAfter Us Vs ids e id → IsListing Ts Vs ids c es (n + 1) (afters ++ id ∷ [])
-    listing-push {Vs} id same x a =
-        let old = all-kept x w.so_far in
-        let here = after-from w.kept ids e id (noted e edge_among) a in
-        let more : length (afters ++ id ∷ []) ≡ length afters + 1 = length-append afters (id ∷ []) in record {
-          kept = extends-on Ts Us Vs w.kept x;
-          so_far = subst (λ z. AreAfter Ts Vs ids c z (afters ++ id ∷ [])) (sym next) record {
-            from = push_one (λ _ i. (d : Edge) × Contains (take n es ++ e ∷ []) d × (d.colour ≡ c) × IsAfter Ts Vs ids d i) afters id 0
-                (λ j l. let f = old.from j l in (f.0, Contains-append_left (take n es) (e ∷ []) f.0 f.1, f.2, f.3))
-                (e, Contains-push (take n es) e, same, here);
-            to = λ d h s. elim (Contains-push_cases (take n es) e d h) [
-              | inl i ↦ (let t = old.to d i s in
-                  (t.0, omega (arith, t.1, more), subst (IsAfter Ts Vs ids d) (sym (get_or_append_left afters (id ∷ []) 0 t.0 t.1)) t.2))
-              | inr i ↦ (
-                length afters,
-                omega (arith, more),
-                subst (λ z. IsAfter Ts Vs ids z (get_or (afters ++ id ∷ []) (length afters) 0)) i
-                    (subst (IsAfter Ts Vs ids e) (sym (get_or_push afters id 0 (length afters) refl)) here),
-              )
-            ];
-          };
-        }
+    -- the loop goes on with one option more
+    module _ {Vs : List Tree} (x : Extends Us Vs) (id : ℕ) (a : IsAfter Us Vs ids e id) where
+      old : AreAfter Ts Vs ids c (take n es) afters
+      old = all-kept x w.so_far
 
--- the loop goes on for both players
-pub listing-add : {Ts Us Vs : List Tree} {ids : List ℕ} {es : List Edge} {n : ℕ} (before now : List ℕ) (id : ℕ) (c : Colour) → n < length es
-    → IsListing Ts Us ids Black es n (options_of Black before) → IsListing Ts Us ids White es n (options_of White before)
-    → c ≡ (get_or es n no_edge).colour → Extends Us Vs → ((d : Edge) → Contains es d → IsNoted Ts ids d.next) → IsAfter Us Vs ids (get_or es n no_edge) id → IsAdded c id before now
-    → IsListing Ts Vs ids Black es (n + 1) (options_of Black now) × IsListing Ts Vs ids White es (n + 1) (options_of White now)
-listing-add {Ts} {Us} {Vs} {ids} {es} {n} before now id Black among l r same x noted a (added, other) = (
-  subst (IsListing Ts Vs ids Black es (n + 1)) (sym added) (listing-push l among noted id (sym same) x a),
-  subst (IsListing Ts Vs ids White es (n + 1)) (sym other) (listing-skip r among x (λ w. let e : Black ≡ White = same ∙ w in cc)),
-)
-listing-add {Ts} {Us} {Vs} {ids} {es} {n} before now id White among l r same x noted a (other, added) = (
-  subst (IsListing Ts Vs ids Black es (n + 1)) (sym other) (listing-skip l among x (λ b. let e : White ≡ Black = same ∙ b in cc)),
-  subst (IsListing Ts Vs ids White es (n + 1)) (sym added) (listing-push r among noted id (sym same) x a),
-)
+      here : IsAfter Ts Vs ids e id
+      here = after-from w.kept ids e id (noted e edge_among) a
+
+      placed : (is : List ℕ) (d : Edge) (i : ℕ) → Contains is i → IsAfter Ts Vs ids d i → (j : ℕ) × (j < length is) × IsAfter Ts Vs ids d (get_or is j 0)
+      placed is d i (k, inside, at) f = (k, inside, subst (IsAfter Ts Vs ids d) (sym (get_or_default is k 0 i inside ∙ at)) f)
+
+      pub listing-add : (before now : List ℕ) (o : ℕ) → afters ≡ options_of c before → o ≡ 2 * id + side_of e.colour → IsWith o before now
+          → IsListing Ts Vs ids c es (n + 1) (options_of c now)
+      listing-add before now o are is members = record {
+        kept = extends-on Ts Us Vs w.kept x;
+        so_far = subst (λ z. AreAfter Ts Vs ids c z (options_of c now)) (sym next) record { from = from; to = to };
+      }
+        where
+          earlier : AreAfter Ts Vs ids c (take n es) (options_of c before)
+          earlier = subst (AreAfter Ts Vs ids c (take n es)) are old
+
+          from : (j : ℕ) → j < length (options_of c now)
+              → (d : Edge) × Contains (take n es ++ e ∷ []) d × (d.colour ≡ c) × IsAfter Ts Vs ids d (get_or (options_of c now) j 0)
+          from j lt =
+              let i = get_or (options_of c now) j 0 in
+              elim ((members (2 * i + side_of c)).0 (numbered c now i (Contains-get_or (options_of c now) j 0 lt))) [
+                | inl there ↦
+                    let (k, inside, at) = listed_in c before i there in
+                    let f = earlier.from k inside in
+                    (f.0, Contains-append_left (take n es) (e ∷ []) f.0 f.1, f.2, subst (IsAfter Ts Vs ids f.0) (get_or_default (options_of c before) k 0 i inside ∙ at) f.3)
+                | inr same ↦
+                    let one = one_option e.colour c id i (sym is ∙ same) in
+                    (e, Contains-push (take n es) e, one.0, subst (IsAfter Ts Vs ids e) one.1 here)
+              ]
+
+          to : (d : Edge) → Contains (take n es ++ e ∷ []) d → d.colour ≡ c
+              → (j : ℕ) × (j < length (options_of c now)) × IsAfter Ts Vs ids d (get_or (options_of c now) j 0)
+          to d h s = elim (Contains-push_cases (take n es) e d h) [
+            | inl i ↦
+                let t = earlier.to d i s in
+                let v = get_or (options_of c before) t.0 0 in
+                let there = numbered c before v (Contains-get_or (options_of c before) t.0 0 t.1) in
+                placed (options_of c now) d v (listed_in c now v ((members (2 * v + side_of c)).1 (inl there))) t.2
+            | inr same ↦
+                let number : o ≡ 2 * id + side_of c = is ∙ ap (λ z. 2 * id + side_of z) (ap (λ z. z.colour) same ∙ s) in
+                placed (options_of c now) d id (listed_in c now id ((members (2 * id + side_of c)).1 (inr number))) (subst (λ z. IsAfter Ts Vs ids z id) same here)
+          ]
 
 pub listing-done : {Ts Us : List Tree} {ids : List ℕ} {es : List Edge} {n : ℕ} {ls rs : List ℕ} → length es ≤ n
     → IsListing Ts Us ids Black es n ls → IsListing Ts Us ids White es n rs → AreBothAfter Ts Us ids es ls rs

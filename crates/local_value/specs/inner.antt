@@ -1,6 +1,7 @@
 -- What loops and private calls keep; no public clause cites it.
 pub mod GraphMoves
 pub mod Options
+pub mod OptionSets
 pub mod Chains
 pub mod Tables
 pub mod Memo

@@ -1,9 +1,11 @@
-//! Forms that are remembered by lists of options.
+//! Forms that are remembered by their options.
 
 ghost use Rattle.std.specs.Prelude.{◌≡◌, ◌+◌, ◌^◌, ◌<◌, ◌≤◌, [], length, Contains, IfSome, IsTrue};
-ghost use Rattle.local_value.specs.inner.Tables.{Learns};
+ghost use Rattle.local_value.specs.inner.OptionSets.{HasNoRepeats};
+ghost use Rattle.local_value.specs.inner.Tables.{IsFormOfMembers, Learns};
 
 use crate::chains::Chains;
+use crate::option_set::{OptionSet, hash_of};
 use crate::options::{MOST_IDS, are_same};
 use game_store::GameId;
 use std::alloc::{AllocError, Global};
@@ -22,7 +24,8 @@ pub(crate) struct KnownForm {
     pub(crate) id: u32,
 }
 
-/// Ids of forms under lists of options. Contracts see the list of both. What was remembered may be forgotten.
+/// Ids of forms under lists of options, in each of which none stands twice. Contracts see the list of both. What was remembered
+/// may be forgotten.
 #[derive(Drop)]
 pub(crate) struct FormTable {
     chains: Chains,
@@ -76,11 +79,11 @@ impl FormTable {
         None
     }
 
-    /// The form with these options, if it is remembered under the hash.
-    #[inline(always)]
-    pub(crate) fn find(&self, options: &[u32], hash: u32) -> Option<GameId>
+    /// The form with these options, if it is remembered of the very list.
+    pub(crate) fn find(&self, options: &[u32]) -> Option<GameId>
         ensures { IfSome result (λ id. Contains self.now (options.now, id)) }
     {
+        let hash = hash_of(options);
         let mut link = self.chains.latest(hash);
         'looking: while link > 0 {
             let place = (link - 1) as usize;
@@ -92,14 +95,42 @@ impl FormTable {
         None
     }
 
+    /// The form at a place, if its options are those of the set.
+    #[inline(always)]
+    fn form_of_set_at(&self, place: usize, options: &OptionSet, hash: u32) -> Option<GameId>
+        requires { place < length self.now }
+        ensures { IfSome result (IsFormOfMembers self.now options.now) }
+    {
+        if !self.chains.has(place, hash) {
+            return None;
+        }
+        let form = self.forms[place];
+        if options.is_same(&self.pool[form.start as usize..form.end as usize]) {
+            return Some(GameId::from(form.id));
+        }
+        None
+    }
+
+    /// The form with the options of a set, if it is remembered of a list of them, in whatever order.
+    #[inline(always)]
+    pub(crate) fn find_set(&self, options: &OptionSet) -> Option<GameId>
+        ensures { IfSome result (IsFormOfMembers self.now options.now) }
+    {
+        let hash = options.hash();
+        let mut link = self.chains.latest(hash);
+        'looking: while link > 0 {
+            let place = (link - 1) as usize;
+            if let Some(id) = self.form_of_set_at(place, options, hash) {
+                return Some(id);
+            }
+            link = self.chains.before(place);
+        }
+        None
+    }
+
     /// Puts a form behind the others.
-    fn add(
-        &mut self,
-        alloc: Global,
-        options: &[u32],
-        hash: u32,
-        id: GameId,
-    ) -> Result<(), AllocError>
+    fn add(&mut self, alloc: Global, options: &[u32], id: GameId) -> Result<(), AllocError>
+        requires { HasNoRepeats options.now }
         ensures { Learns self.old (options.now, id) self.new }
     {
         if id >= MOST_IDS || !has_room(self.forms.len(), self.pool.len(), options.len()) {
@@ -110,7 +141,7 @@ impl FormTable {
         self.pool.extend_from_slice(options)?;
         let end = self.pool.len() as u32;
         self.forms.reserve(1)?;
-        self.chains.add(alloc, hash)?;
+        self.chains.add(alloc, hash_of(options))?;
         self.forms.push_reserved(KnownForm { start, end, id });
         Ok(())
     }
@@ -125,10 +156,11 @@ impl FormTable {
     }
 
     /// Remembers a form, or forgets all where memory or room is wanting.
-    pub(crate) fn remember(&mut self, alloc: Global, options: &[u32], hash: u32, id: GameId)
+    pub(crate) fn remember(&mut self, alloc: Global, options: &[u32], id: GameId)
+        requires { HasNoRepeats options.now }
         ensures { Learns self.old (options.now, id) self.new }
     {
-        if self.add(alloc, options, hash, id).is_err() {
+        if self.add(alloc, options, id).is_err() {
             self.clear();
         }
     }

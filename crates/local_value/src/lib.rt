@@ -8,6 +8,7 @@ mod form_table;
 mod laws;
 mod layer_edges;
 mod memo;
+mod option_set;
 mod options;
 mod short_ids;
 mod steady_values;

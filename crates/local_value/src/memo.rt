@@ -11,11 +11,14 @@ ghost use Rattle.game_canon.specs.Outcomes.{IsCause};
 ghost use Rattle.game_canon.specs.FormComparisons.{AreFormComparisonsRight};
 ghost use Rattle.local_value.specs.Remembered.{options_of, stones_units, IsStonesSum, AreStonesSumsRight, IsFormOf};
 ghost use Rattle.local_value.specs.inner.Memo.{AreFormsRight, IsMemoRight};
+ghost use Rattle.local_value.specs.inner.OptionSets.{HasNoRepeats};
+ghost use Rattle.local_value.specs.inner.Tables.{Learns};
 
 use crate::form_table::FormTable;
-use crate::options::{hash_of, ids_for};
+use crate::option_set::OptionSet;
+use crate::options::{ids_for, in_order};
 use crate::sum_table::SumTable;
-use crate::undominated::undominated;
+use crate::undominated::without_dominated;
 use dyadic_num::Dyadic;
 use game_canon::{FormComparisons, FormError, add_number, canonical_with};
 use game_store::{GameId, Store};
@@ -29,12 +32,12 @@ pub(crate) struct Forms {
     pub(crate) comparisons: FormComparisons,
 }
 
-/// What is remembered from position to position, and a list of options as room to work in.
+/// What is remembered from position to position, and a set of options as room to work in.
 #[derive(Drop)]
 pub(crate) struct Memo {
     pub(crate) sums: SumTable,
     pub(crate) forms: Forms,
-    pub(crate) options: Vec<u32>,
+    pub(crate) options: OptionSet,
 }
 
 impl Memo {
@@ -48,7 +51,7 @@ impl Memo {
                 table: FormTable::new(alloc),
                 comparisons: FormComparisons::new(alloc),
             },
-            options: Vec::new(alloc),
+            options: OptionSet::new(alloc),
         }
     }
 }
@@ -131,6 +134,7 @@ fn known_form(
 ) -> Result<GameId, FormError>
     requires left { AreIds store.old (options_of Black options.now) }
     requires right { AreIds store.old (options_of White options.now) }
+    requires once { HasNoRepeats options.now }
     requires forms { AreFormsRight store.old parts_limit forms.old }
     ensures form { IfOk result (IsFormOf store.new parts_limit options.now) }
     ensures refusal { IfErr result (λ error. IsCause (listed store.old
@@ -138,29 +142,37 @@ fn known_form(
     ensures forms { OnOk result (AreFormsRight store.new parts_limit forms.new) }
     ensures kept { Extends store.old store.new }
 {
-    let hash = hash_of(options);
-    if let Some(id) = forms.table.find(options, hash) {
+    if let Some(id) = forms.table.find(options) {
         return Ok(id);
     }
     let comparisons = &mut forms.comparisons;
     let id = canonical_form(alloc, store, comparisons, options, parts_limit)?;
-    forms.table.remember(alloc, options, hash, id);
+    forms.table.remember(alloc, options, id);
     Ok(id)
 }
 
-/// The canonical form of the game with these options, where it isn't remembered of them as they are listed: that of the
-/// undominated ones in ascending order, so that fewer different lists come up.
-#[inline(never)]
+/// Remembers a form under the whole list of options, where it was made of fewer, under which it is remembered already.
+fn remember_whole(alloc: Global, table: &mut FormTable, options: &[u32], kept: &[u32], id: GameId)
+    requires { HasNoRepeats options.now }
+    ensures { Learns table.old (options.now, id) table.new }
+{
+    if kept.len() < options.len() {
+        table.remember(alloc, options, id);
+    }
+}
+
+/// The canonical form of the game with these options, which ascend: that of the undominated ones, of which fewer different lists
+/// come up.
 fn form_in_order(
     alloc: Global,
     store: &mut Store,
     forms: &mut Forms,
     options: &[u32],
-    hash: u32,
     parts_limit: u32,
 ) -> Result<GameId, FormError>
     requires left { AreIds store.old (options_of Black options.now) }
     requires right { AreIds store.old (options_of White options.now) }
+    requires once { HasNoRepeats options.now }
     requires forms { AreFormsRight store.old parts_limit forms.old }
     ensures form { IfOk result (IsFormOf store.new parts_limit options.now) }
     ensures refusal { IfErr result (λ error. IsCause (listed store.old
@@ -168,24 +180,46 @@ fn form_in_order(
     ensures forms { OnOk result (AreFormsRight store.new parts_limit forms.new) }
     ensures kept { Extends store.old store.new }
 {
-    let kept = undominated(alloc, store, options)?;
+    let kept = without_dominated(alloc, store, options)?;
     match known_form(alloc, store, forms, &kept, parts_limit) {
         Ok(id) => {
-            forms.table.remember(alloc, options, hash, id);
+            remember_whole(alloc, &mut forms.table, options, &kept, id);
             Ok(id)
         }
         Err(error) => Err(error),
     }
 }
 
-/// The canonical form of the game with these options, as `canonical` makes it. The hash is that of the list.
+/// The canonical form of the game with these options, where it isn't remembered of them.
+#[inline(never)]
+fn new_form(
+    alloc: Global,
+    store: &mut Store,
+    forms: &mut Forms,
+    options: &[u32],
+    parts_limit: u32,
+) -> Result<GameId, FormError>
+    requires left { AreIds store.old (options_of Black options.now) }
+    requires right { AreIds store.old (options_of White options.now) }
+    requires once { HasNoRepeats options.now }
+    requires forms { AreFormsRight store.old parts_limit forms.old }
+    ensures form { IfOk result (IsFormOf store.new parts_limit options.now) }
+    ensures refusal { IfErr result (λ error. IsCause (listed store.old
+        (options_of Black options.now) (options_of White options.now)) parts_limit error) }
+    ensures forms { OnOk result (AreFormsRight store.new parts_limit forms.new) }
+    ensures kept { Extends store.old store.new }
+{
+    let sorted = in_order(alloc, options)?;
+    form_in_order(alloc, store, forms, &sorted, parts_limit)
+}
+
+/// The canonical form of the game with these options, as `canonical` makes it.
 #[inline(always)]
 pub(crate) fn form_of(
     alloc: Global,
     store: &mut Store,
     forms: &mut Forms,
-    options: &[u32],
-    hash: u32,
+    options: &OptionSet,
     parts_limit: u32,
 ) -> Result<GameId, FormError>
     requires left { AreIds store.old (options_of Black options.now) }
@@ -197,8 +231,8 @@ pub(crate) fn form_of(
     ensures forms { OnOk result (AreFormsRight store.new parts_limit forms.new) }
     ensures kept { Extends store.old store.new }
 {
-    if let Some(id) = forms.table.find(options, hash) {
+    if let Some(id) = forms.table.find_set(options) {
         return Ok(id);
     }
-    form_in_order(alloc, store, forms, options, hash, parts_limit)
+    new_form(alloc, store, forms, options.as_slice(), parts_limit)
 }

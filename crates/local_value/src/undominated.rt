@@ -3,8 +3,8 @@
 ghost use Rattle.std.specs.Prelude.{ℕ, ◌≡◌, ◌/◌, ◌%◌, ◌<◌, length, true, Contains, IfOk, IfSome};
 ghost use Rattle.local_value.specs.Remembered.{side};
 ghost use Rattle.local_value.specs.inner.Options.{leader_of, IsNoBetter, IsOptionAmong, IsLed, AreEnough};
+ghost use Rattle.local_value.specs.inner.OptionSets.{HasNoRepeats};
 
-use crate::options::in_order;
 use game_store::{GameId, Store};
 use go_grid::Colour;
 use std::alloc::{AllocError, Global};
@@ -94,17 +94,16 @@ fn is_dominated(store: &Store, player: Colour, option: u32, best: Option<u32>) -
     }
 }
 
-/// Whether an option is the last of a list.
-fn is_last(options: &[u32], option: u32) -> bool
-    ensures { result ≡ true → Contains options.now option }
-{
-    options.last() == Some(&option)
-}
-
-/// The options, which ascend, once each and without those that numbers show to be dominated.
-fn without_dominated(alloc: Global, store: &Store, options: &[u32]) -> Result<Vec<u32>, AllocError>
-    requires { (n : ℕ) → Contains options.now n → n / 2 < length store.now }
-    ensures { IfOk result (λ kept. AreEnough store.now options.now kept.items) }
+/// The options without those that numbers show to be dominated.
+pub(crate) fn without_dominated(
+    alloc: Global,
+    store: &Store,
+    options: &[u32],
+) -> Result<Vec<u32>, AllocError>
+    requires known { (n : ℕ) → Contains options.now n → n / 2 < length store.now }
+    requires once { HasNoRepeats options.now }
+    ensures enough { IfOk result (λ kept. AreEnough store.now options.now kept.items) }
+    ensures once { IfOk result (λ kept. HasNoRepeats kept.items) }
 {
     let leaders = Leaders {
         black: leader(store, Colour::Black, options),
@@ -113,23 +112,10 @@ fn without_dominated(alloc: Global, store: &Store, options: &[u32]) -> Result<Ve
     let mut kept = Vec::with_capacity(alloc, options.len())?;
     for option in options {
         let player = player_of(*option);
-        if is_last(&kept, *option) || is_dominated(store, player, *option, leaders.of(player)) {
+        if is_dominated(store, player, *option, leaders.of(player)) {
             continue;
         }
         kept.push(*option)?;
     }
     Ok(kept)
-}
-
-/// The options in ascending order, once each and without those that numbers show to be dominated.
-pub(crate) fn undominated(
-    alloc: Global,
-    store: &Store,
-    options: &[u32],
-) -> Result<Vec<u32>, AllocError>
-    requires { (n : ℕ) → Contains options.now n → n / 2 < length store.now }
-    ensures { IfOk result (λ kept. AreEnough store.now options.now kept.items) }
-{
-    let sorted = in_order(alloc, options)?;
-    without_dominated(alloc, store, &sorted)
 }

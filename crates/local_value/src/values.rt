@@ -15,7 +15,8 @@ ghost use Rattle.local_value.specs.Values.{IsGraphOf, AreValues};
 ghost use Rattle.local_value.specs.inner.Valuing.{IsNoted, IsWithinAfter, AreWithinAfter, IsAfter, AreBothAfter, HasEdges, most_units};
 
 use crate::memo::{Memo, form_of, with_stones};
-use crate::options::{add_option, folded, mixed};
+use crate::option_set::OptionSet;
+use crate::options::number_of;
 use crate::short_ids::{ShortId, lengthened, shortened};
 use crate::sum_table::SumTable;
 use dyadic_num::EXPONENT;
@@ -61,7 +62,7 @@ fn value_after(
     }
 }
 
-/// Puts the values after the edges into `options`, as they come. The answer is the hash of the list.
+/// Puts the values after the edges into `options`, in place of what was there.
 #[inline(always)]
 fn list_options(
     alloc: Global,
@@ -69,27 +70,25 @@ fn list_options(
     sums: &mut SumTable,
     ids: &[ShortId],
     edges: &Edges<'_>,
-    options: &mut Vec<u32>,
-) -> Result<u32, AllocError>
+    options: &mut OptionSet,
+) -> Result<(), AllocError>
     requires noted { (e : Edge) → Contains edges.now e → IsNoted store.old ids.now e.next }
     requires small { AreWithinAfter most_units store.old ids.now edges.now }
     requires sums { AreStonesSumsRight store.old sums.old }
     ensures options { OnOk result
-        (AreBothAfter store.old store.new ids.now edges.now (options_of Black options.new.items)
-        (options_of White options.new.items)) }
+        (AreBothAfter store.old store.new ids.now edges.now (options_of Black options.new)
+        (options_of White options.new)) }
     ensures sums { OnOk result (AreStonesSumsRight store.new sums.new) }
     ensures kept { Extends store.old store.new }
 {
     options.clear();
-    options.reserve(edges.len())?;
-    let mut hash = 0;
     'listing: for number in 0..edges.len() {
         let edge = edges.get(number);
         let after = value_after(alloc, store, sums, ids, &edge)?;
-        let option = add_option(options, edge.colour, after)?;
-        hash = mixed(hash, option);
+        let option = number_of(edge.colour, after)?;
+        options.add(option)?;
     }
-    Ok(folded(hash))
+    Ok(())
 }
 
 /// The value of a position with these edges.
@@ -114,15 +113,8 @@ pub(crate) fn value_of(
     ensures memo { OnOk result (IsMemoRight store.new parts_limit memo.new) }
     ensures kept { Extends store.old store.new }
 {
-    let hash = list_options(alloc, store, &mut memo.sums, ids, edges, &mut memo.options)?;
-    form_of(
-        alloc,
-        store,
-        &mut memo.forms,
-        &memo.options,
-        hash,
-        parts_limit,
-    )
+    list_options(alloc, store, &mut memo.sums, ids, edges, &mut memo.options)?;
+    form_of(alloc, store, &mut memo.forms, &memo.options, parts_limit)
 }
 
 /// Puts the value of each position of a graph into its place.

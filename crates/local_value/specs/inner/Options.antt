@@ -1,15 +1,10 @@
 -- The options of a position as one list of numbers.
-use Rattle.std.specs.Prelude.{ℕ, ◌/◌, ◌%◌, ◌≡◌, ◌≢◌, Option, Some, List, [], ◌∷◌, ◌++◌, Contains}
+use Rattle.std.specs.Prelude.{ℕ, ◌/◌, ◌%◌, ◌≡◌, ◌≢◌, Option, Some, List, Contains}
 use Rattle.go_grid.specs.declared.grid.Colour.{Colour}
 use Rattle.go_grid.specs.declared.grid.Colour.TheVariants.{Black, White}
 use Rattle.short_games.specs.Tree.{Tree, tree_at}
 use Rattle.short_games.specs.Order.{◌≤ᵍ◌}
-use Rattle.local_value.specs.Remembered.{side, options_of}
-
--- an id stands behind the options of a player, and the other's are as before
-abbrev pub IsAdded : Colour → ℕ → List ℕ → List ℕ → Type 0
-IsAdded Black id before now = (options_of Black now ≡ options_of Black before ++ id ∷ []) × (options_of White now ≡ options_of White before)
-IsAdded White id before now = (options_of Black now ≡ options_of Black before) × (options_of White now ≡ options_of White before ++ id ∷ [])
+use Rattle.local_value.specs.Remembered.{side}
 
 -- the number is that of an option of the player, and in the list
 abbrev pub IsOptionAmong : Colour → List ℕ → ℕ → Type 0

@@ -1,7 +1,7 @@
-use Rattle.std.proofs.Common.{◌<◌, ◌≤◌, arith, refl, sym, subst}
+use Rattle.std.proofs.Common.{◌+◌, ◌*◌, ◌≡◌, ◌<◌, ◌≤◌, refl, sym, subst}
 use Rattle.game_canon.proofs.ChangedIdLaws.{extends-on}
 use Rattle.local_graph.specs.declared.graph.Edge.{Edge}
-use Rattle.local_value.specs.inner.Options.{IsAdded}
+use Rattle.local_value.specs.Remembered.{side}
 use Rattle.local_value.specs.inner.Valuing.{IsAfter, IsNoted, IsWithinAfter, most_units}
 use Rattle.local_value.proofs.OptionsLaws.{listing-add, listing-done, step-noted, step-within}
 use Rattle.local_value.proofs.values.list_options.Goals as goal
@@ -21,16 +21,15 @@ pub listing-preserved : goal.listing-preserved
 listing-preserved c =
     let w = c.listing.invariant in
     let it = c.get-edge.ensures in
-    let both = listing-add c.listing.options.items c.add_option.new.options.items c.in_ok-after.after _ (subst (λ n. c.listing.number < n) c.len-number-end.ensures c.listing-test.true) w.left w.right
-    refl c.value_after.ensures.kept c.requires.noted
-    (subst (λ (e : Edge). IsAfter c.listing.store c.value_after.new.store c.args.ids.now e c.in_ok-after.after) it c.in_ok-after.ensures.value)
-    (subst (λ (e : Edge). IsAdded e.colour c.in_ok-after.after c.listing.options.items c.add_option.new.options.items) it c.in_ok-option.ensures.added) in
+    let among = subst (λ n. c.listing.number < n) c.len-number-end.ensures c.listing-test.true in
+    let after = subst (λ (e : Edge). IsAfter c.listing.store c.value_after.new.store c.args.ids.now e c.in_ok-after.after) it c.in_ok-after.ensures.value in
+    let number = subst (λ (e : Edge). c.in_ok-option.option ≡ 2 * c.in_ok-after.after + side e.colour) it c.in_ok-option.ensures in
     record {
-      left = both.0;
-      right = both.1;
+      left = listing-add w.left among c.requires.noted c.value_after.ensures.kept c.in_ok-after.after after c.listing.options c.add.new.self c.in_ok-option.option refl number
+          (c.in_ok-add.ensures {u = tt});
+      right = listing-add w.right among c.requires.noted c.value_after.ensures.kept c.in_ok-after.after after c.listing.options c.add.new.self c.in_ok-option.option refl number
+          (c.in_ok-add.ensures {u = tt});
       sums = c.in_ok-after.ensures.sums;
-      many = omega (arith, c.in_ok-option.ensures.one, w.many);
-      room = omega (arith, c.add_option.ensures.capacity, w.room);
     }
 
 pub returns : goal.returns

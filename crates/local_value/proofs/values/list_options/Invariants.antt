@@ -1,5 +1,3 @@
-use Rattle.std.proofs.Common.{◌≡◌, ◌≤◌, length}
-use Rattle.std.specs.Vec.{vec_len, vec_capacity}
 use Rattle.go_grid.specs.declared.grid.Colour.TheVariants.{Black, White}
 use Rattle.local_value.specs.Remembered.{AreStonesSumsRight, options_of}
 use Rattle.local_value.proofs.OptionsLaws.{IsListing}
@@ -7,9 +5,7 @@ use Rattle.local_value.proofs.values.list_options.Given as goal
 
 abbrev pub invariant-listing : goal.invariant-listing
 invariant-listing l = record {
-  left : IsListing l.fn.store l.store l.ids Black l.edges l.number (options_of Black l.options.items);
-  right : IsListing l.fn.store l.store l.ids White l.edges l.number (options_of White l.options.items);
+  left : IsListing l.fn.store l.store l.ids Black l.edges l.number (options_of Black l.options);
+  right : IsListing l.fn.store l.store l.ids White l.edges l.number (options_of White l.options);
   sums : AreStonesSumsRight l.store l.sums;
-  many : vec_len l.options ≡ l.number;
-  room : length l.edges ≤ vec_capacity l.options;
 }
