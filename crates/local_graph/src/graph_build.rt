@@ -1,6 +1,6 @@
 //! Building a graph: a walk finds the positions, their moves and, unless it meets a cycle, an order of them.
 
-ghost use Rattle.std.specs.Prelude.{ℕ, ◌≡◌, ◌≢◌, ◌+◌, ◌*◌, ◌^◌, ◌<◌, ◌≤◌, List, [], ◌++◌, length, drop, Contains, slice_index, count_by, IfOk, OnOk, IfSome, IfNone, MatchResult, alloc_error};
+ghost use Rattle.std.specs.Prelude.{ℕ, ◌≡◌, ◌≢◌, ◌+◌, ◌^◌, ◌<◌, ◌≤◌, List, [], ◌++◌, length, drop, Contains, slice_index, count_by, IfOk, OnOk, IfSome, IfNone, alloc_error};
 ghost use Rattle.local_graph.specs.declared.graph.Edge.{Edge};
 ghost use Rattle.local_graph.specs.declared.graph_build.GraphError.TheVariants.{Memory};
 ghost use Rattle.std.specs.List.{AllPairs};

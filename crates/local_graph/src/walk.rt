@@ -1,7 +1,6 @@
 //! A walk through positions as they are found, depth first: which place comes next, and an order of the places, ends first.
 
-ghost use Rattle.std.specs.Prelude.{◌≡◌, ◌<◌, ◌≤◌, ◌^◌, [], ◌∷◌, ◌++◌, length, false, slice_set, IfOk, IfSome, IfNone, None, Contains};
-ghost use Rattle.local_graph.specs.declared.search.Visit.TheVariants.{OnPath};
+ghost use Rattle.std.specs.Prelude.{◌≡◌, ◌<◌, ◌≤◌, ◌^◌, [], ◌∷◌, ◌++◌, length, false, IfOk, IfSome, IfNone, None, Contains};
 ghost use Rattle.local_graph.specs.declared.walk.Task.{Task};
 ghost use Rattle.local_graph.specs.declared.walk.Task.TheVariants.{Leave};
 ghost use Rattle.local_graph.specs.declared.graph.Edge.{Edge};
