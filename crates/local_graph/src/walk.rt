@@ -103,7 +103,8 @@ impl Walk {
     /// Enters a new place, whose edges are these. Where they lead comes next, and then the place is left.
     pub(crate) fn enter(&mut self, place: u32, edges: &Edges<'_>) -> Result<(), AllocError>
         requires place { place < length self.old.visits.items }
-        requires inside { (e : Edge) → Contains edges.now e → e.next < length self.old.visits.items }
+        requires inside { (e : Edge) → Contains edges.now e
+            → e.next < length self.old.visits.items }
         requires few { length self.old.visits.items ≤ 2 ^ 32 }
         ensures { IfOk result (λ _. Entered place edges.now self.old self.new) }
     {
