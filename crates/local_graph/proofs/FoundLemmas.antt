@@ -160,10 +160,6 @@ pub linking_all : (before : List ℕ) (given : List LocalMove) (limit : ℕ) (af
 linking_all before given limit after first whole edges is s =
     (s.extends, subst (AreEdges after given) (sym (edges_behind first whole edges is)) s.edges_are, s.few)
 
-pub one_behind : (first edges before after : List Edge) (e : Edge) → before ≡ first ++ edges → after ≡ before ++ e ∷ []
-    → after ≡ first ++ (edges ++ e ∷ [])
-one_behind first edges before after e is more = more ∙ ap (λ es. es ++ e ∷ []) is ∙ append_assoc first edges (e ∷ [])
-
 -- one more of what stands for each past the last changes none
 default_push : {X : Type 0} (xs : List X) (d : X) (i : ℕ) → get_or (xs ++ d ∷ []) i d ≡ get_or xs i d
 default_push xs d i = elim (cases_lt i (length xs)) [

@@ -20,4 +20,5 @@ pub mod TellingSteps
 pub mod RankLemmas
 pub mod ReturnGraphLemmas
 pub mod WalkLemmas
+pub mod NotingLemmas
 pub mod WalkSteps

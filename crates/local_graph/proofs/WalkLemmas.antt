@@ -1,9 +1,9 @@
 -- A walk through places as they are found.
-use Rattle.std.proofs.Common.{◌≡◌, ◌≢◌, ℕ, ◌+◌, ◌-◌, ◌<◌, ◌≤◌, ◌⊎◌, inl, inr, suc, arith, refl, sym, ap, ◌∙◌, Bool, true, false, cond, List, [], ◌∷◌, ◌++◌, length, length-append, get_or, set, subst, append_assoc, take, Option, None, Some}
+use Rattle.std.proofs.Common.{◌≡◌, ◌≢◌, ℕ, ◌+◌, ◌-◌, ◌<◌, ◌≤◌, ◌⊎◌, inl, inr, suc, arith, refl, sym, ap, ◌∙◌, Bool, true, false, cond, List, [], ◌∷◌, ◌++◌, length, length-append, get_or, set, subst, append_assoc, Option, None, Some}
 use Rattle.std.specs.List.{Contains, count_by}
 use Rattle.std.proofs.lemmas.Bool.{cases_eq, cases_lt, both_ways}
 use Rattle.std.proofs.Math.Seq.{get_or-append_seam}
-use Rattle.std.proofs.lemmas.List.{length_push, length-set, get_or-set_same, get_or-set_other, get_or_past, get_or_push, get_or_append_left, get_or-append-add, get_or_default, take_more}
+use Rattle.std.proofs.lemmas.List.{length_push, length-set, get_or-set_same, get_or-set_other, get_or_past, get_or_push, get_or_append_left, get_or-append-add, get_or_default}
 use Rattle.std.proofs.lemmas.List.Elements.{Contains-get_or, Contains-push, Contains-push_cases, Contains-append_cases, Contains-append_left, Contains-append_right}
 use Rattle.std.proofs.lemmas.List.Quantifiers.{all_pairs_push}
 use Rattle.std.proofs.lemmas.List.Sums.{sum_by-set, sum_by-cons}
@@ -24,9 +24,6 @@ use Rattle.local_graph.proofs.SearchLemmas.{known_inside, new_apart, new_placed,
 
 pub other_task : (t : Task) (i j : ℕ) → t ≡ Enter i → t ≡ Leave j → ⊥
 other_task t i j a b = cc
-
-same_enter : (t : Task) (i j : ℕ) → t ≡ Enter i → t ≡ Enter j → i ≡ j
-same_enter t i j a b = ap place_of (sym a ∙ b)
 
 same_leave : (t : Task) (i j : ℕ) → t ≡ Leave i → t ≡ Leave j → i ≡ j
 same_leave t i j a b = ap place_of (sym a ∙ b)
@@ -326,35 +323,28 @@ walk_orders E visits tasks order has_cycle w none long no_cycle =
     placed o i lt Placed is = is
 
 -- where edges lead, up to a number
-module _ (visits : List Visit) (edges : List Edge) (k : ℕ) (e : Edge) (lt : k < length edges) (is : e ≡ get_or edges k no_edge) where
-  pub target_among : Contains edges e
-  target_among = subst (Contains edges) (sym is) (Contains-get_or edges k no_edge lt)
-
-  one_more : take (k + 1) edges ≡ take k edges ++ e ∷ []
-  one_more = take_more edges k no_edge lt ∙ ap (λ x. take k edges ++ x ∷ []) (sym is)
-
-  pub target_placed : (before so_far : List Task) → AreTargets visits (take k edges) before so_far → visit_at visits e.next ≡ Placed
-      → AreTargets visits (take (k + 1) edges) before so_far
-  target_placed before so_far t done = subst (λ l. AreTargets visits l before so_far) (sym one_more) record {
+-- one edge more, whose target is placed or entered behind the tasks
+module _ (visits : List Visit) (es : List Edge) (e : Edge) (before so_far : List Task) (t : AreTargets visits es before so_far) where
+  pub target_placed : visit_at visits e.next ≡ Placed → AreTargets visits (es ++ e ∷ []) before so_far
+  target_placed done = record {
     more = t.more;
     behind = t.behind;
-    only = λ u among. let w = t.only u among in (w.0, Contains-append_left (take k edges) (e ∷ []) w.0 w.1, w.2);
-    each = λ f among. elim (Contains-push_cases (take k edges) e f among) [
+    only = λ u among. let w = t.only u among in (w.0, Contains-append_left es (e ∷ []) w.0 w.1, w.2);
+    each = λ f among. elim (Contains-push_cases es e f among) [
       | inl old ↦ t.each f old
       | inr same ↦ inl (subst (λ x. visit_at visits x.next ≡ Placed) same done)
     ];
   }
 
-  pub target_entered : (before so_far after : List Task) → AreTargets visits (take k edges) before so_far → after ≡ so_far ++ Enter e.next ∷ []
-      → AreTargets visits (take (k + 1) edges) before after
-  target_entered before so_far after t put = subst (λ l. AreTargets visits l before after) (sym one_more) record {
+  pub target_entered : (after : List Task) → after ≡ so_far ++ Enter e.next ∷ [] → AreTargets visits (es ++ e ∷ []) before after
+  target_entered after put = record {
     more = t.more ++ Enter e.next ∷ [];
     behind = put ∙ ap (λ l. l ++ Enter e.next ∷ []) t.behind ∙ append_assoc before t.more (Enter e.next ∷ []);
     only = λ u among. elim (Contains-push_cases t.more (Enter e.next) u among) [
-      | inl old ↦ let w = t.only u old in (w.0, Contains-append_left (take k edges) (e ∷ []) w.0 w.1, w.2)
-      | inr same ↦ (e, Contains-push (take k edges) e, sym same)
+      | inl old ↦ let w = t.only u old in (w.0, Contains-append_left es (e ∷ []) w.0 w.1, w.2)
+      | inr same ↦ (e, Contains-push es e, sym same)
     ];
-    each = λ f among. elim (Contains-push_cases (take k edges) e f among) [
+    each = λ f among. elim (Contains-push_cases es e f among) [
       | inl old ↦ elim (t.each f old) [
         | inl done ↦ inl done
         | inr waits ↦ inr (Contains-append_left t.more (Enter e.next ∷ []) (Enter f.next) waits)
@@ -362,6 +352,27 @@ module _ (visits : List Visit) (edges : List Edge) (k : ℕ) (e : Edge) (lt : k 
       | inr same ↦ inr (subst (λ x. Contains (t.more ++ Enter e.next ∷ []) (Enter x.next)) same (Contains-push t.more (Enter e.next)))
     ];
   }
+
+-- what is placed stays so
+pub targets_still : (visits still : List Visit) (es : List Edge) (before after : List Task)
+    → ((i : ℕ) → visit_at visits i ≡ Placed → visit_at still i ≡ Placed) → AreTargets visits es before after → AreTargets still es before after
+targets_still visits still es before after kept t = record {
+  more = t.more;
+  behind = t.behind;
+  only = t.only;
+  each = λ e among. elim (t.each e among) [
+    | inl done ↦ inl (kept e.next done)
+    | inr waits ↦ inr waits
+  ];
+}
+
+-- a new place on the path changes none that is placed
+pub placed_still : (visits : List Visit) (p : ℕ) → visit_at visits p ≡ New → (i : ℕ) → visit_at visits i ≡ Placed
+    → visit_at (set visits p OnPath) i ≡ Placed
+placed_still visits p new i done = elim (cases_eq i p) [
+  | inl same ↦ absurd (new_placed _ (ap (visit_at visits) same ∙ new) done)
+  | inr ne ↦ set_other visits p OnPath i ne ∙ done
+]
 
 -- a place that was added is where an edge leads
 pub added_target : (positions after : List ℕ) (moves : List LocalMove) (es : List Edge) → AddsPositions positions moves after

@@ -1,7 +1,7 @@
 -- Exploring by a walk, in the words of the code.
-use Rattle.std.proofs.Common.{◌≡◌, ℕ, zero, suc, inl, inr, Ok, ◌+◌, ◌-◌, ◌<◌, ◌≤◌, arith, refl, sym, ap, ◌∙◌, false, List, [], ◌∷◌, ◌++◌, length, length-append, length-drop, take, drop, get_or, set, subst, Option, None, Some, IfNone, IfSome, Vec, Global}
+use Rattle.std.proofs.Common.{◌≡◌, ℕ, zero, suc, inl, inr, Ok, ◌+◌, ◌-◌, ◌<◌, ◌≤◌, arith, refl, sym, ap, ◌∙◌, Bool, false, List, [], ◌∷◌, ◌++◌, length, length-append, drop, get_or, set, subst, Option, None, Some, IfNone, IfSome, Vec, Global}
 use Rattle.std.specs.List.{Contains, count_by}
-use Rattle.std.proofs.lemmas.List.{length-set, length_push, get_or_default, get_or_past, take_all}
+use Rattle.std.proofs.lemmas.List.{length-set, length_push, get_or_default, get_or_past}
 use Rattle.std.proofs.lemmas.List.Elements.{Contains-push, Contains-push_cases}
 use Rattle.go_grid.specs.declared.grid.Cell.{Cell}
 use Rattle.go_grid.specs.declared.region.Touch.{Touch}
@@ -16,15 +16,16 @@ use Rattle.local_graph.specs.declared.walk.Task.{Task}
 use Rattle.local_graph.specs.declared.walk.Task.TheVariants.{Enter, Leave}
 use Rattle.local_graph.specs.declared.walk.Walk.{Walk}
 use Rattle.local_graph.specs.LocalGraph.{AreEdges, IsGraph, IsOrderOfPlaces}
-use Rattle.local_graph.specs.inner.Exploring.{Exploring, IsExploring}
+use Rattle.local_graph.specs.inner.Exploring.{AreNoted, Exploring, IsExploring}
 use Rattle.local_graph.specs.inner.Found.{Grows, Placed, AddsPositions, AreAwaited}
 use Rattle.local_graph.specs.inner.Graph.{lists_of, AreWithin}
 use Rattle.local_graph.specs.inner.Searching.{visit_at, is_new}
-use Rattle.local_graph.specs.inner.Walk.{place_of, task_at, IsWalk, Ordering, WalksWith, Goes, AreTargets, Entered, IsBegun}
+use Rattle.local_graph.specs.inner.Walk.{place_of, task_at, IsWalk, Ordering, WalksWith, Goes, AreTargets, IsBegun, IsOpened}
 use Rattle.local_graph.proofs.EdgeListLemmas.{lists_put, within_put}
 use Rattle.local_graph.proofs.ExploreLemmas.{explore_on, explored_all}
+use Rattle.local_graph.proofs.NotingLemmas.{awaited_put, noted_spans}
 use Rattle.local_graph.proofs.SearchLemmas.{new_apart, new_placed}
-use Rattle.local_graph.proofs.WalkLemmas.{other_task, none_new, one_new_less, walk_ends, walk_orders, added_target, enter_walk}
+use Rattle.local_graph.proofs.WalkLemmas.{other_task, none_new, one_new_less, walk_ends, walk_orders, added_target, enter_walk, placed_still, targets_still}
 
 -- a new place is entered next
 pub record Entering (touch : List Touch) (opening : List Cell) (limit : ℕ) (positions : List ℕ) (edges : List (List Edge)) (first walk : Walk) (p : ℕ) : Type 0 where
@@ -85,12 +86,6 @@ put_lists edges after spans span p first end within behind is from to =
       within_put edges more after spans (set spans p span) span p within behind refl from' to',
     )
 
-pub part_behind : (first whole : List Edge) (from to : ℕ) (part : List Edge) → part ≡ take (to - from) (drop from whole) → from ≡ length first
-    → to ≡ length whole → part ≡ drop (length first) whole
-part_behind first whole from to part is at end =
-    is ∙ ap (λ n. take (to - n) (drop n whole)) at
-    ∙ take_all (to - length first) (drop (length first) whole) (omega (arith, end, length-drop (length first) whole))
-
 pub edges_lead : (positions : List ℕ) (moves : List LocalMove) (es : List Edge) → AreEdges positions moves es → (e : Edge) → Contains es e
     → e.next < length positions
 edges_lead positions moves es (long, each) e (k, lt, at) =
@@ -116,28 +111,74 @@ module _ {touch : List Touch} {opening : List Cell} {limit : ℕ} (positions aft
   pub inside_still : p < length still
   inside_still = omega (arith, still_as_many, longer, w.inside)
 
-  pub leads_still : (part : List Edge) → part ≡ es → (e : Edge) → Contains part e → e.next < length still
-  leads_still part same e among =
-      let lt = edges_lead after moves es linked e (subst (λ l. Contains l e) same among) in omega (arith, lt, still_as_many)
-
   pub one_less : (visits : List Visit) → visits ≡ set still p OnPath
       → count_by is_new visits + 1 + length positions ≡ count_by is_new walk.visits.items + length after
   one_less visits entered =
       let less = one_new_less still p inside_still (awaited.known p ∙ w.new) in
       omega (arith, ap (count_by is_new) entered, less, awaited.many, length-set E p es, w.so_far.beside)
 
-  pub walk_entered : (between now : Walk) (part : List Edge) → part ≡ es → between.visits.items ≡ still → between.tasks.items ≡ walk.tasks.items
-      → between.order.items ≡ walk.order.items → between.has_cycle ≡ walk.has_cycle → Entered p part between now → WalksWith E' now now.tasks.items
-  walk_entered between now part same visits tasks order cycle entered =
-      let put_there : now.visits.items ≡ set still p OnPath = entered.visits ∙ ap (λ l. set l p OnPath) visits in
-      let targets = subst (λ l. AreTargets (set still p OnPath) es (l ++ Leave p ∷ []) now.tasks.items) tasks
-      (subst (λ l. AreTargets (set still p OnPath) l (between.tasks.items ++ Leave p ∷ []) now.tasks.items) same
-      (subst (λ l. AreTargets l part (between.tasks.items ++ Leave p ∷ []) now.tasks.items) put_there entered.targets)) in
-      let done = enter_walk E E' walk.visits.items still walk.tasks.items now.tasks.items p es walk.order.items (length after)
-      (omega (arith, w.inside, w.so_far.seen)) w.new (w.so_far.beside ∙ sym w.so_far.seen) awaited (omega (arith, longer, w.so_far.seen)) targets
+  pub walk_entered : (visits : List Visit) (tasks : List Task) (order : List ℕ) (cycle : Bool) → visits ≡ set still p OnPath
+      → AreTargets still es (walk.tasks.items ++ Leave p ∷ []) tasks → order ≡ walk.order.items → cycle ≡ walk.has_cycle
+      → IsWalk E' visits tasks order cycle
+  walk_entered visits tasks order cycle put_there targets same_order same_cycle =
+      let on_path = targets_still still (set still p OnPath) es _ _ (placed_still still p (awaited.known p ∙ w.new)) targets in
+      let done = enter_walk E E' walk.visits.items still walk.tasks.items tasks p es walk.order.items (length after)
+      (omega (arith, w.inside, w.so_far.seen)) w.new (w.so_far.beside ∙ sym w.so_far.seen) awaited (omega (arith, longer, w.so_far.seen)) on_path
       (edges_lead after moves es linked)
       (λ i late lt. added_target positions after moves es x linked i (omega (arith, late, w.so_far.seen)) lt) walk.has_cycle w.goes_on in
-      rw (put_there, entered.order ∙ order, entered.has_cycle ∙ cycle) done
+      rw (put_there, same_order, same_cycle) done
+
+-- the edges of the place that is entered next were listed, it has its span, and is on the path
+module _ {touch : List Touch} {opening : List Cell} {limit places : ℕ} (t : PlaceTable) (found now : Exploration) (walk opened : Walk) (next : Option ℕ)
+    (p : ℕ) (u : IsExploring touch opening limit places t found) (goes : Goes found.walk found.walk.tasks.items walk next) (is : next ≡ Some p)
+    (o : IsOpened p walk opened) (after : List ℕ) (moves : List LocalMove)
+    (x : AddsPositions t.positions.items moves after) (linked : AreEdges after moves (drop (length found.edges) now.edges))
+    (n : AreNoted (length after) (drop (length found.edges) now.edges) (record { edges = found.edges; spans = found.spans; walk = opened }) now)
+    (spans : List Span) (span : Span) (first end : ℕ) (put : spans ≡ set now.spans.items p span) (stands : span ≡ record { start = first; end = end })
+    (from : first ≡ length found.edges) (to : end ≡ length now.edges) (visits : List Visit) (on : visits ≡ set now.walk.visits.items p OnPath) where
+  abbrev pub lists_before : List (List Edge)
+  lists_before = lists_of found.edges found.spans.items
+
+  abbrev pub edges_listed : List Edge
+  edges_listed = drop (length found.edges) now.edges
+
+  w : Entering touch opening limit t.positions.items lists_before found.walk walk p
+  w = entering t found walk next p u goes is
+
+  listed : (lists_of now.edges (set now.spans.items p span) ≡ set (lists_of found.edges now.spans.items) p edges_listed)
+      × AreWithin (length now.edges) (set now.spans.items p span)
+  listed = put_lists found.edges now.edges now.spans.items span p first end (n.within (length found.edges) u.within) n.edges stands from to
+
+  kept : length t.positions.items ≤ length after
+  kept = omega (arith, ap length x.appended, length-append t.positions.items x.more)
+
+  pub awaits : AreAwaited (set lists_before p edges_listed) walk.visits.items (length after) (lists_of now.edges spans) now.walk.visits.items
+  awaits =
+      subst (λ l. AreAwaited (set lists_before p edges_listed) walk.visits.items (length after) l now.walk.visits.items) (sym (ap (lists_of now.edges) put ∙ listed.0))
+      (awaited_put lists_before (lists_of found.edges now.spans.items) walk.visits.items now.walk.visits.items p (length after) edges_listed
+      (subst (λ v. AreAwaited lists_before v (length after) (lists_of found.edges now.spans.items) now.walk.visits.items) o.same.visits (n.awaited found.edges))
+      (omega (arith, w.inside, w.so_far.beside)) (omega (arith, kept, w.so_far.beside)))
+
+  pub within_now : AreWithin (length now.edges) spans
+  within_now = subst (AreWithin (length now.edges)) (sym put) listed.1
+
+  pub has_span : p < length now.spans.items
+  has_span = omega (arith, noted_spans (length after) edges_listed _ now n, kept, w.inside)
+
+  pub has_visit : p < length now.walk.visits.items
+  has_visit = inside_still t.positions.items after lists_before (set lists_before p edges_listed) (lists_of now.edges spans) found.walk walk now.walk.visits.items p (length after) edges_listed moves w x
+      linked refl refl awaits
+
+  pub less_now : count_by is_new visits + 1 + length t.positions.items ≡ count_by is_new walk.visits.items + length after
+  less_now = one_less t.positions.items after lists_before (set lists_before p edges_listed) (lists_of now.edges spans) found.walk walk now.walk.visits.items p (length after) edges_listed moves w x
+      linked refl refl awaits visits on
+
+  pub walk_now : IsWalk (lists_of now.edges spans) visits now.walk.tasks.items now.walk.order.items now.walk.has_cycle
+  walk_now =
+      walk_entered t.positions.items after lists_before (set lists_before p edges_listed) (lists_of now.edges spans) found.walk walk now.walk.visits.items
+      p (length after) edges_listed moves w x linked refl refl awaits visits now.walk.tasks.items now.walk.order.items now.walk.has_cycle on
+      (subst (λ l. AreTargets now.walk.visits.items edges_listed l now.walk.tasks.items) o.tasks n.targets)
+      (n.order ∙ o.same.order) (n.has_cycle ∙ o.same.has_cycle)
 
 -- a walk that has entered no place yet
 begin_order : (E : List (List Edge)) (visits : List Visit) → ((i : ℕ) → visit_at visits i ≡ New) → Ordering E visits (Enter 0 ∷ []) []

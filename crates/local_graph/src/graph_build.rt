@@ -1,6 +1,6 @@
 //! Building a graph: a walk finds the positions, their moves and, unless it meets a cycle, an order of them.
 
-ghost use Rattle.std.specs.Prelude.{ℕ, ◌≡◌, ◌≢◌, ◌+◌, ◌^◌, ◌<◌, ◌≤◌, List, [], ◌++◌, length, drop, Contains, slice_index, count_by, IfOk, OnOk, IfSome, IfNone, alloc_error};
+ghost use Rattle.std.specs.Prelude.{ℕ, ◌≡◌, ◌≢◌, ◌+◌, ◌^◌, ◌<◌, ◌≤◌, List, [], length, drop, Contains, slice_index, count_by, IfOk, OnOk, IfSome, IfNone, alloc_error};
 ghost use Rattle.local_graph.specs.declared.graph.Edge.{Edge};
 ghost use Rattle.local_graph.specs.declared.graph_build.GraphError.TheVariants.{Memory};
 ghost use Rattle.std.specs.List.{AllPairs};
@@ -13,7 +13,7 @@ ghost use Rattle.local_graph.specs.inner.Built.{IsRooted};
 ghost use Rattle.local_graph.specs.inner.SearchedFor.{IsOrdered};
 ghost use Rattle.local_graph.specs.inner.Searching.{is_new};
 ghost use Rattle.local_graph.specs.LocalGraph.{IsOrderOfPlaces};
-ghost use Rattle.local_graph.specs.inner.Exploring.{IsExploring, Begun, Ended, IsPositionOn, EdgesFrom};
+ghost use Rattle.local_graph.specs.inner.Exploring.{IsExploring, Begun, Ended, IsPositionOn, EdgesFrom, IsNoted, AreNoted};
 ghost use Rattle.local_graph.specs.inner.Graph.{lists_of, AreWithin};
 ghost use Rattle.local_graph.specs.inner.Found.{Placed, edge_of, Explored, AreAwaited};
 ghost use Rattle.local_graph.specs.inner.PlaceTable.{threes, IsPlaceTable, IsNumbered, ArePowers};
@@ -78,9 +78,11 @@ fn new_place(
     alloc: Global,
     table: &mut PlaceTable,
     position: Local,
+    number: u64,
     limit: u32,
 ) -> Result<usize, GraphError>
     requires table { IsPlaceTable table.old }
+    requires number { number ≡ threes position }
     requires new { ¬ Contains table.old.positions.items position }
     requires numbered { IsNumbered table.old.numbers position }
     requires few { length table.old.positions.items ≤ limit }
@@ -91,7 +93,7 @@ fn new_place(
 {
     let place = table.positions.len();
     if place < limit as usize {
-        table.add(alloc, position.0)?;
+        table.add(alloc, position.0, number)?;
         return Ok(place);
     }
     table.positions.push(position.0)?;
@@ -141,7 +143,29 @@ fn await_new(spans: &mut Vec<Span>, visits: &mut Vec<Visit>, count: usize) -> Re
     Ok(())
 }
 
-/// Puts the edges of a position's moves behind those that are there.
+/// The edges that were found, the span of them that is each position's, and the walk that lists them.
+#[derive(Drop)]
+pub(crate) struct Exploration {
+    edges: EdgeList,
+    spans: Vec<Span>,
+    walk: Walk,
+}
+
+impl Exploration {
+    /// Puts an edge behind the others, and the entering of the place that it leads to behind the tasks, unless it is in the order.
+    #[inline(always)]
+    fn note(&mut self, edge: &Edge) -> Result<(), AllocError>
+        requires next { edge.now.next < length self.old.walk.visits.items }
+        requires few { length self.old.walk.visits.items ≤ 2 ^ 32 }
+        ensures { OnOk result (IsNoted edge.now self.old self.new) }
+    {
+        self.walk.aim(edge.next)?;
+        self.edges.push(edge)
+    }
+}
+
+/// Puts the edges of a position's moves behind those that are there, a place for each new position that they lead to behind the
+/// others, and the entering of each place that isn't in the order behind the tasks.
 #[inline(always)]
 fn list_position<L: Ledger>(
     alloc: Global,
@@ -151,21 +175,23 @@ fn list_position<L: Ledger>(
     position: u64,
     limit: u32,
     steps: &mut Steps<L>,
-    edges: &mut EdgeList,
+    found: &mut Exploration,
 ) -> Result<(), GraphError>
     requires table { IsPlaceTable table.old }
     requires once { AllPairs (λ a b. a ≢ b) table.old.positions.items }
     requires position { IsPositionOn links.now table.old.numbers position }
     requires powers { ArePowers powers.now }
     requires few { length table.old.positions.items ≤ limit }
+    requires spans { length found.old.spans.items ≡ length table.old.positions.items }
+    requires visits { length found.old.walk.visits.items ≡ length table.old.positions.items }
     ensures edges { (touch : List Touch) (cells : List Cell) → IsTable touch links.now
         → length cells ≡ length touch → position ≡ pack cells
         → EdgesFrom touch cells table.old.positions.items limit table.new.positions.items
-        (drop (length edges.old) edges.new) result }
-    ensures behind { OnOk result (edges.new
-        ≡ edges.old ++ drop (length edges.old) edges.new) }
+        (drop (length found.old.edges) found.new.edges) result }
     ensures table { OnOk result (IsPlaceTable table.new) }
     ensures numbers { OnOk result (table.new.numbers ≡ table.old.numbers) }
+    ensures noted { OnOk result (AreNoted (length table.new.positions.items)
+        (drop (length found.old.edges) found.new.edges) found.old found.new) }
     ensures step { steps.new ≡ steps.old + 1 }
 {
     let number = threes(position);
@@ -174,24 +200,21 @@ fn list_position<L: Ledger>(
         'linking: while let Some(step) = moves.next(links) {
             let after = number_after(powers, number, &step);
             if let Some(place) = place_of(table, step.next, after) {
-                edges.push(&edge_of(&step, place))?;
+                found.note(&edge_of(&step, place))?;
                 continue;
             }
-            let place = new_place(alloc, table, step.next, limit)?;
-            edges.push(&edge_of(&step, place))?;
+            let place = new_place(alloc, table, step.next, after, limit)?;
+            await_new(
+                &mut found.spans,
+                &mut found.walk.visits,
+                table.positions.len(),
+            )?;
+            found.note(&edge_of(&step, place))?;
         }
         if !moves.pass_on() {
             return Ok(());
         }
     }
-}
-
-/// The edges that were found, the span of them that is each position's, and the walk that lists them.
-#[derive(Drop)]
-pub(crate) struct Exploration {
-    edges: EdgeList,
-    spans: Vec<Span>,
-    walk: Walk,
 }
 
 /// The opening alone, which is still to be entered.
@@ -208,7 +231,8 @@ fn begin(
     ensures { Begun region.now.touch region.now.cells limit (length region.now.points) table.new
         result }
 {
-    new_place(alloc, table, start(region), limit)?;
+    let opening = start(region);
+    new_place(alloc, table, opening, threes(opening.0), limit)?;
     let walk = Walk::new(alloc)?;
     let mut found = Exploration {
         edges: EdgeList::new(alloc),
@@ -253,25 +277,14 @@ fn explore_new<L: Ledger>(
         };
         let position = table.positions[place as usize];
         let first = found.edges.len();
+        found.walk.open(place)?;
         list_position(
-            alloc,
-            table,
-            &links,
-            &weights,
-            position,
-            limit,
-            steps,
-            &mut found.edges,
+            alloc, table, &links, &weights, position, limit, steps, found,
         )?;
         let end = found.edges.len();
         let span = Span::between(first, end)?;
         found.spans[place as usize] = span;
-        await_new(
-            &mut found.spans,
-            &mut found.walk.visits,
-            table.positions.len(),
-        )?;
-        found.walk.enter(place, &found.edges.part(first, end))?;
+        found.walk.visits[place as usize] = Visit::OnPath;
     }
 }
 

@@ -1,6 +1,6 @@
 //! The positions found so far, and a table that tells their places.
 
-ghost use Rattle.std.specs.Prelude.{◌≡◌, ◌≢◌, ◌+◌, ◌^◌, ◌<◌, ◌≤◌, [], ◌∷◌, ◌++◌, length, slice_index, slice_set, Contains, IfSome, IfNone, OnOk, IfOk, true, false};
+ghost use Rattle.std.specs.Prelude.{◌≡◌, ◌+◌, ◌^◌, ◌<◌, ◌≤◌, [], ◌∷◌, ◌++◌, length, slice_index, slice_set, Contains, IfSome, IfNone, OnOk, true, false};
 ghost use Rattle.local_graph.specs.inner.PlaceTable.{folded, threes, IsNumbered, HasFew, HasSlots, IsPlaceTable};
 
 use indexmap::IndexSet;
@@ -105,8 +105,8 @@ impl PlaceTable {
     }
 
     /// Puts the place of a position into the slot of its number.
-    fn fill_slot(&mut self, place: usize)
-        requires place { place < length self.old.positions.items }
+    fn fill_slot(&mut self, place: usize, number: u64)
+        requires number { number ≡ threes (slice_index self.old.positions.items place) }
         requires fits { place + 1 < 2 ^ 32 }
         requires slot { threes (slice_index self.old.positions.items place)
             < length self.old.slots.items }
@@ -115,8 +115,7 @@ impl PlaceTable {
         ensures positions { self.new.positions.items ≡ self.old.positions.items }
         ensures numbers { self.new.numbers ≡ self.old.numbers }
     {
-        let number = threes(self.positions[place]) as usize;
-        self.slots[number] = place as u32 + 1;
+        self.slots[number as usize] = place as u32 + 1;
     }
 
     /// Makes a slot for each number.
@@ -130,7 +129,8 @@ impl PlaceTable {
         self.slots = vec![in alloc; 0; self.numbers]?;
         self.few = IndexSet::new(alloc);
         'filling: for place in 0..self.positions.len() {
-            self.fill_slot(place);
+            let number = threes(self.positions[place]);
+            self.fill_slot(place, number);
         }
         Ok(())
     }
@@ -157,8 +157,9 @@ impl PlaceTable {
     }
 
     /// Puts a new position behind the others, and its place into the table.
-    fn enter(&mut self, position: u64) -> Result<(), AllocError>
+    fn enter(&mut self, position: u64, number: u64) -> Result<(), AllocError>
         requires table { IsPlaceTable self.old }
+        requires number { number ≡ threes position }
         requires new { ¬ Contains self.old.positions.items position }
         requires numbered { IsNumbered self.old.numbers position }
         requires few { length self.old.positions.items + 1 < 2 ^ 32 }
@@ -172,16 +173,22 @@ impl PlaceTable {
         self.positions.reserve(1)?;
         self.positions.push_reserved(position);
         if has_slots {
-            self.fill_slot(place);
+            self.fill_slot(place, number);
             return Ok(());
         }
         self.few.insert(position)?;
         Ok(())
     }
 
-    /// Puts a new position behind the others.
-    pub(crate) fn add(&mut self, alloc: Global, position: u64) -> Result<(), AllocError>
+    /// Puts a new position with a number in base 3 behind the others.
+    pub(crate) fn add(
+        &mut self,
+        alloc: Global,
+        position: u64,
+        number: u64,
+    ) -> Result<(), AllocError>
         requires table { IsPlaceTable self.old }
+        requires number { number ≡ threes position }
         requires new { ¬ Contains self.old.positions.items position }
         requires numbered { IsNumbered self.old.numbers position }
         requires few { length self.old.positions.items + 1 < 2 ^ 32 }
@@ -191,6 +198,6 @@ impl PlaceTable {
         ensures numbers { OnOk result (self.new.numbers ≡ self.old.numbers) }
     {
         self.make_room(alloc)?;
-        self.enter(position)
+        self.enter(position, number)
     }
 }

@@ -1,6 +1,6 @@
 //! Orders of positions with ends first, where the returning captures of a colour are left out.
 
-ghost use Rattle.std.specs.Prelude.{◌≡◌, ◌+◌, ◌*◌, ◌<◌, ◌≤◌, List, length, map, IfOk, Some};
+ghost use Rattle.std.specs.Prelude.{◌≡◌, ◌+◌, ◌*◌, ◌<◌, List, length, map, IfOk, Some};
 ghost use Rattle.local_graph.specs.declared.graph.Edge.{Edge};
 ghost use Rattle.local_graph.specs.ReturnGraph.{IsOrderBetweenCaptures};
 ghost use Rattle.local_graph.specs.inner.Ranks.{IsRank, AreRanks, AllFallOrRise};

@@ -1,6 +1,6 @@
 //! The cycle that is shown.
 
-ghost use Rattle.std.specs.Prelude.{◌≡◌, ◌≢◌, ◌↔◌, IfOk, IsTrue, Contains};
+ghost use Rattle.std.specs.Prelude.{◌≢◌, ◌↔◌, IfOk, IsTrue, Contains};
 ghost use Rattle.std.specs.List.{AllPairs};
 ghost use Rattle.local_graph.specs.inner.Built.{IsRooted};
 ghost use Rattle.local_graph.specs.inner.SearchedFor.{IsSearched};

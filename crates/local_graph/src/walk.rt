@@ -1,12 +1,10 @@
 //! A walk through positions as they are found, depth first: which place comes next, and an order of the places, ends first.
 
-ghost use Rattle.std.specs.Prelude.{◌≡◌, ◌<◌, ◌≤◌, ◌^◌, [], ◌∷◌, ◌++◌, length, false, IfOk, IfSome, IfNone, None, Contains};
+ghost use Rattle.std.specs.Prelude.{◌≡◌, ◌<◌, ◌≤◌, ◌^◌, [], ◌∷◌, ◌++◌, length, false, IfOk, OnOk, IfSome, IfNone, None};
 ghost use Rattle.local_graph.specs.declared.walk.Task.{Task};
 ghost use Rattle.local_graph.specs.declared.walk.Task.TheVariants.{Leave};
-ghost use Rattle.local_graph.specs.declared.graph.Edge.{Edge};
-ghost use Rattle.local_graph.specs.inner.Walk.{IsBegun, AreInside, Goes, AreTargets, Entered, place_of};
+ghost use Rattle.local_graph.specs.inner.Walk.{IsBegun, AreInside, Goes, IsAimed, IsOpened, place_of};
 
-use crate::edges::Edges;
 use crate::search::Visit;
 use std::alloc::{AllocError, Global};
 
@@ -100,18 +98,28 @@ impl Walk {
         Ok(None)
     }
 
-    /// Enters a new place, whose edges are these. Where they lead comes next, and then the place is left.
-    pub(crate) fn enter(&mut self, place: u32, edges: &Edges<'_>) -> Result<(), AllocError>
-        requires place { place < length self.old.visits.items }
-        requires inside { (e : Edge) → Contains edges.now e
-            → e.next < length self.old.visits.items }
-        requires few { length self.old.visits.items ≤ 2 ^ 32 }
-        ensures { IfOk result (λ _. Entered place edges.now self.old self.new) }
+    /// Begins with a place: it is left when all that is put behind the tasks later is done.
+    pub(crate) fn open(&mut self, place: u32) -> Result<(), AllocError>
+        ensures { OnOk result (IsOpened place self.old self.new) }
     {
-        self.visits[place as usize] = Visit::OnPath;
         self.tasks.reserve(1)?;
         self.tasks.push_reserved(Task::Leave(place));
-        enter_targets(&mut self.tasks, &self.visits, edges)
+        Ok(())
+    }
+
+    /// Puts the entering of a place behind the tasks, unless it is in the order.
+    #[inline(always)]
+    pub(crate) fn aim(&mut self, place: usize) -> Result<(), AllocError>
+        requires place { place < length self.old.visits.items }
+        requires few { length self.old.visits.items ≤ 2 ^ 32 }
+        ensures { OnOk result (IsAimed place self.old self.new) }
+    {
+        if let Visit::Placed = self.visits[place] {
+            return Ok(());
+        }
+        self.tasks.reserve(1)?;
+        self.tasks.push_reserved(Task::Enter(place as u32));
+        Ok(())
     }
 
     /// The order of all places, if no cycle was met.
@@ -124,26 +132,4 @@ impl Walk {
         }
         Some(self.order)
     }
-}
-
-/// Puts the entering of each place that edges lead to, and that isn't in the order, behind the tasks.
-#[inline(always)]
-fn enter_targets(
-    tasks: &mut Vec<Task>,
-    visits: &[Visit],
-    edges: &Edges<'_>,
-) -> Result<(), AllocError>
-    requires inside { (e : Edge) → Contains edges.now e → e.next < length visits.now }
-    requires few { length visits.now ≤ 2 ^ 32 }
-    ensures { IfOk result (λ _. AreTargets visits.now edges.now tasks.old.items tasks.new.items) }
-{
-    tasks.reserve(edges.len())?;
-    'targets: for number in 0..edges.len() {
-        let next = edges.get(number).next;
-        if let Visit::Placed = visits[next] {
-            continue;
-        }
-        tasks.push_reserved(Task::Enter(next as u32));
-    }
-    Ok(())
 }

@@ -1,5 +1,5 @@
 -- What exploring has come to.
-use Rattle.std.specs.Prelude.{◌≡◌, ◌≢◌, ℕ, ◌^◌, ◌<◌, ◌≤◌, List, [], length, slice_index, slice_index_or, Contains, false, count_by, Result, Ok, Err}
+use Rattle.std.specs.Prelude.{◌≡◌, ◌≢◌, ℕ, ◌^◌, ◌<◌, ◌≤◌, List, [], ◌∷◌, ◌++◌, length, slice_index, slice_index_or, Contains, false, count_by, Result, Ok, Err}
 use Rattle.std.specs.List.{AllPairs}
 use Rattle.go_grid.specs.declared.grid.Cell.{Cell}
 use Rattle.go_grid.specs.declared.region.Touch.{Touch}
@@ -17,11 +17,11 @@ use Rattle.local_graph.specs.declared.search.Visit.{Visit}
 use Rattle.local_graph.specs.declared.search.Visit.TheVariants.{New}
 use Rattle.local_graph.specs.declared.walk.Task.{Task}
 use Rattle.local_graph.specs.LocalGraph.{IsReachable, HasMoves, IsGraph, IsOrderOfPlaces}
-use Rattle.local_graph.specs.inner.Found.{EdgesFor, Explored}
+use Rattle.local_graph.specs.inner.Found.{AreAwaited, EdgesFor, Explored}
 use Rattle.local_graph.specs.inner.Graph.{lists_of, AreWithin}
 use Rattle.local_graph.specs.inner.PlaceTable.{IsPlaceTable}
 use Rattle.local_graph.specs.inner.Searching.{visit_at, is_new}
-use Rattle.local_graph.specs.inner.Walk.{WalksWith}
+use Rattle.local_graph.specs.inner.Walk.{AreTargets, IsAimed, WalksWith}
 
 -- each number is that of a reachable position
 abbrev pub AreReachable : List Touch → List Cell → List ℕ → Type 0
@@ -88,3 +88,19 @@ EdgesFrom touch cells before limit after edges (Err Positions) =
 EdgesFrom touch cells before limit after edges (Err (Points p)) = ⊥
 EdgesFrom touch cells before limit after edges (Err (Cycle ms back)) = ⊥
 EdgesFrom touch cells before limit after edges (Err (Memory e)) = Unit {0}
+
+-- an edge stands behind the others, and the place that it leads to is entered behind the tasks
+pub record IsNoted (e : Edge) (before after : Exploration) : Type 0 where
+  pub edges : after.edges ≡ before.edges ++ e ∷ []
+  pub spans : after.spans.items ≡ before.spans.items
+  pub walk : IsAimed e.next before.walk after.walk
+
+-- edges stand behind the others, the places that they lead to are entered behind the tasks, and there are so many places
+pub record AreNoted (count : ℕ) (more : List Edge) (before after : Exploration) : Type 0 where
+  pub edges : after.edges ≡ before.edges ++ more
+  pub awaited : (edges : List Edge) → AreAwaited (lists_of edges before.spans.items) before.walk.visits.items count
+      (lists_of edges after.spans.items) after.walk.visits.items
+  pub within : (n : ℕ) → AreWithin n before.spans.items → AreWithin n after.spans.items
+  pub targets : AreTargets after.walk.visits.items more before.walk.tasks.items after.walk.tasks.items
+  pub order : after.walk.order.items ≡ before.walk.order.items
+  pub has_cycle : after.walk.has_cycle ≡ before.walk.has_cycle

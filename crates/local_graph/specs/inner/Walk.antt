@@ -1,5 +1,5 @@
 -- A walk through places as they are found, depth first.
-use Rattle.std.specs.Prelude.{◌≡◌, ◌≢◌, ℕ, ◌<◌, ◌⊎◌, Bool, false, List, [], ◌∷◌, ◌++◌, length, slice_index, slice_index_or, slice_set, Contains, Option, None, Some, IfSome, count_by}
+use Rattle.std.specs.Prelude.{◌≡◌, ◌≢◌, ℕ, ◌<◌, ◌⊎◌, Bool, false, List, [], ◌∷◌, ◌++◌, length, slice_index, slice_index_or, Contains, Option, None, Some, IfSome, count_by}
 use Rattle.std.specs.List.{AllPairs}
 use Rattle.local_graph.specs.declared.graph.Edge.{Edge}
 use Rattle.local_graph.specs.declared.search.Visit.{Visit}
@@ -80,9 +80,19 @@ pub record AreTargets (visits : List Visit) (edges : List Edge) (before after : 
   pub only : (t : Task) → Contains more t → (e : Edge) × Contains edges e × (t ≡ Enter e.next)
   pub each : (e : Edge) → Contains edges e → (visit_at visits e.next ≡ Placed) ⊎ Contains more (Enter e.next)
 
--- the place, with these edges, is on the path
-pub record Entered (place : ℕ) (edges : List Edge) (before after : Walk) : Type 0 where
-  pub visits : after.visits.items ≡ slice_set before.visits.items place OnPath
-  pub targets : AreTargets after.visits.items edges (before.tasks.items ++ Leave place ∷ []) after.tasks.items
+-- one walk is as the other but for its tasks
+pub record IsAsBefore (before after : Walk) : Type 0 where
+  pub visits : after.visits.items ≡ before.visits.items
   pub order : after.order.items ≡ before.order.items
   pub has_cycle : after.has_cycle ≡ before.has_cycle
+
+-- the place is left behind the tasks
+pub record IsOpened (place : ℕ) (before after : Walk) : Type 0 where
+  pub same : IsAsBefore before after
+  pub tasks : after.tasks.items ≡ before.tasks.items ++ Leave place ∷ []
+
+-- the place is entered behind the tasks, unless it is placed
+pub record IsAimed (place : ℕ) (before after : Walk) : Type 0 where
+  pub same : IsAsBefore before after
+  pub tasks : ((visit_at before.visits.items place ≡ Placed) × (after.tasks.items ≡ before.tasks.items))
+      ⊎ (after.tasks.items ≡ before.tasks.items ++ Enter place ∷ [])

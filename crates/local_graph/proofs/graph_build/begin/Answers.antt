@@ -10,14 +10,14 @@ use Rattle.local_graph.proofs.graph_build.begin.Goals as goal
 
 pub new_place-requires-clause-numbered : goal.new_place-requires-clause-numbered
 new_place-requires-clause-numbered c =
-    opening_numbered c.args.region.now.cells c.args.table.now.numbers (length c.args.region.now.points) c.start.result c.start.ensures.full
-    c.requires.points c.requires.numbers c.start.ensures.packed
+    opening_numbered c.args.region.now.cells c.args.table.now.numbers (length c.args.region.now.points) c.start-opening.result c.start-opening.ensures.full
+    c.requires.points c.requires.numbers c.start-opening.ensures.packed
 
 pub returns-in_err-new_place : goal.returns-in_err-new_place
 returns-in_err-new_place c =
     let p = err_from_is_err_and c.from_residual.result c.from_residual.ensures.1 in
     rw (p.1, p.2)
-    (start_fails _ _ _ _ _ _ _ c.requires.none c.start.ensures.packed c.in_err-new_place.ensures.placed)
+    (start_fails _ _ _ _ _ _ _ c.requires.none c.start-opening.ensures.packed c.in_err-new_place.ensures.placed)
 
 pub returns-in_err-walk : goal.returns-in_err-walk
 returns-in_err-walk c = let p = err_from_is_err_and c.from_residual-in_err-walk.result c.from_residual-in_err-walk.ensures.1 in rw (p.1, p.2) tt
@@ -32,11 +32,11 @@ returns c =
     let awaited = c.in_ok-await_new.ensures.awaited edges in
     let none = ap (lists_of edges) c.new-3.ensures.items in (
       record {
-        full = c.start.ensures.full;
+        full = c.start-opening.ensures.full;
         table = c.in_ok-new_place.ensures.table;
         numbers = c.in_ok-new_place.ensures.numbers ∙ c.requires.numbers;
         so_far = start_found c.args.region.now.touch c.args.region.now.cells c.args.limit _ _ _ _ _ (lists_of edges c.new-3.result.items) _ _ _
-            c.requires.none c.start.ensures.packed none c.in_ok-walk.ensures.visits c.in_ok-new_place.ensures.placed full awaited;
+            c.requires.none c.start-opening.ensures.packed none c.in_ok-walk.ensures.visits c.in_ok-new_place.ensures.placed full awaited;
         within = c.in_ok-await_new.ensures.within (length edges) (none_within (length edges) _ c.new-3.ensures.items);
         walk = begin_walk _ _ c.in_ok-walk.walk _ _ _ _ _ _ _ c.in_ok-walk.ensures none c.requires.none c.in_ok-new_place.ensures.placed full awaited;
       },

@@ -1,4 +1,4 @@
-use Rattle.std.proofs.Common.{◌≤◌, ◌≡◌, ◌++◌, List, length}
+use Rattle.std.proofs.Common.{◌≤◌, ◌≡◌, List, length}
 use Rattle.go_grid.specs.declared.grid.Cell.{Cell}
 use Rattle.go_grid.specs.declared.region.Touch.{Touch}
 use Rattle.local_play.specs.declared.local_move.LocalMove.{LocalMove}
@@ -6,6 +6,7 @@ use Rattle.local_play.specs.Links.{IsTable}
 use Rattle.local_play.specs.Packed.{pack}
 use Rattle.local_play.specs.GivenMoves.{HaveGiven, tries_left}
 use Rattle.local_graph.specs.declared.graph.Edge.{Edge}
+use Rattle.local_graph.specs.inner.Exploring.{AreNoted}
 use Rattle.local_graph.specs.inner.PlaceTable.{IsPlaceTable}
 use Rattle.local_graph.proofs.FoundLemmas.{Linking}
 use Rattle.local_graph.proofs.graph_build.list_position.Given as goal
@@ -16,7 +17,7 @@ invariant-turns g l = record {
   have : (touch : List Touch) (cells : List Cell) → IsTable touch l.links → length cells ≡ length touch → l.fn.position ≡ pack cells
       → HaveGiven touch cells given l.moves;
   behind : List Edge;
-  appended : l.edges ≡ l.fn.edges ++ behind;
+  noted : AreNoted (length l.table.positions.items) behind l.fn.found l.found;
   linking : Linking l.fn.table.positions.items given l.fn.limit l.table.positions.items behind;
   table : IsPlaceTable l.table;
   numbers : l.table.numbers ≡ l.fn.table.numbers;
@@ -31,7 +32,7 @@ invariant-linking g l = record {
   have : (touch : List Touch) (cells : List Cell) → IsTable touch l.links → length cells ≡ length touch → l.fn.position ≡ pack cells
       → HaveGiven touch cells given l.moves;
   behind : List Edge;
-  appended : l.edges ≡ l.fn.edges ++ behind;
+  noted : AreNoted (length l.table.positions.items) behind l.fn.found l.found;
   linking : Linking l.fn.table.positions.items given l.fn.limit l.table.positions.items behind;
   table : IsPlaceTable l.table;
   numbers : l.table.numbers ≡ l.fn.table.numbers;

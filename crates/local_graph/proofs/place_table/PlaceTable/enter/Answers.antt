@@ -13,6 +13,14 @@ fill_slot-requires-clause-slot c =
     ap (λ l. get_or l c.len-place.result 0) (c.push_reserved.ensures.items ∙ ap (λ l. l ++ c.args.position ∷ []) c.reserve.ensures.items) ∙ get_or_push s.positions.items c.args.position 0 c.len-place.result (sym at) in
     subst (λ n. threes n < length s.slots.items) (sym there) (slot_inside c.args.position (length s.slots.items) s.numbers has.enough c.requires.numbered)
 
+pub fill_slot-requires-clause-number : goal.fill_slot-requires-clause-number
+fill_slot-requires-clause-number c =
+    let s = c.args.self.now in
+    let at : c.len-place.result ≡ length s.positions.items = omega (arith, c.len-place.ensures, s.positions.ok) in
+    let there : get_or c.push_reserved.new.self.items c.len-place.result 0 ≡ c.args.position =
+    ap (λ l. get_or l c.len-place.result 0) (c.push_reserved.ensures.items ∙ ap (λ l. l ++ c.args.position ∷ []) c.reserve.ensures.items) ∙ get_or_push s.positions.items c.args.position 0 c.len-place.result (sym at) in
+    c.requires.number ∙ ap threes (sym there)
+
 pub returns-then-has_slots-clause-table : goal.returns-then-has_slots-clause-table
 returns-then-has_slots-clause-table c =
     let s = c.args.self.now in
