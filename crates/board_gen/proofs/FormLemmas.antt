@@ -27,10 +27,10 @@ use Rattle.game_players.specs.Players.{credit, gain, options}
 use Rattle.short_games.proofs.ReductionLaws.{same-canonical}
 use Rattle.game_canon.proofs.NumberPartLaws.{sum-parts}
 use Rattle.game_canon.proofs.PartLaws.{fewer}
-use Rattle.local_value.specs.LocalGame.{Step}
-use Rattle.local_value.specs.Laws.{MovesTo}
-use Rattle.local_value.specs.PositionTree.{IsStep, IsTreeOf, IsValueOf, PlaysAreShort}
-use Rattle.local_value.proofs.TreeLaws.{trees-exist, short_plays, depths-agree, trees-same}
+use Rattle.local_trees.specs.LocalGame.{Step}
+use Rattle.local_trees.specs.Laws.{MovesTo}
+use Rattle.local_trees.specs.PositionTree.{IsStep, IsTreeOf, IsValueOf, PlaysAreShort}
+use Rattle.local_trees.proofs.TreeLaws.{trees-exist, short_plays, depths-agree, trees-same}
 use Rattle.board_gen.proofs.HeightLemmas.{IsLow, canonical_low, from_option, low_follower, low_gain, low_more, low_number, low_plus}
 use Rattle.board_gen.proofs.ReturnLemmas.{AreWalled, no_cycle, same_or_other}
 use Rattle.board_gen.proofs.OwnerLemmas.{counted, owners, owners_most}

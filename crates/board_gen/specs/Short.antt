@@ -8,7 +8,7 @@ use Rattle.local_graph.specs.LocalGraph.{IsReachable, MoreThan}
 use Rattle.short_games.specs.Tree.{Tree}
 use Rattle.short_games.specs.Parts.{HasMoreParts}
 use Rattle.game_canon.specs.Changes.{HasNumberPastBounds}
-use Rattle.local_value.specs.PositionTree.{IsValueOf}
+use Rattle.local_trees.specs.PositionTree.{IsValueOf}
 use Rattle.region_cut.specs.Cut.{AreRegionsOfPlay}
 
 -- the region has at most 3 points, at most 27 reachable positions and no cycle, and the value of each of these has at most 500

@@ -2,7 +2,7 @@
 
 ghost use Rattle.std.specs.Prelude.{◌≡◌, ◌<◌, ◌≤◌, IfSome, length};
 ghost use Rattle.go_grid.specs.Region.{Region};
-ghost use Rattle.local_value.specs.Values.{IsGraphOf};
+ghost use Rattle.local_trees.specs.GraphPlaces.{IsGraphOf};
 
 use drawings::{Drawing, region};
 use dyadic_num::Dyadic;

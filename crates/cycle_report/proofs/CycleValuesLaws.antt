@@ -11,8 +11,8 @@ use Rattle.go_grid.specs.Region.{Region}
 use Rattle.region_cut.specs.Cut.{lowest}
 use Rattle.short_games.specs.Tree.{Tree, tree_at}
 use Rattle.short_games.proofs.ReductionLaws.{same-canonical}
-use Rattle.local_value.specs.Steady.{IsBudgetValue, IsLeastSteady}
-use Rattle.local_value.proofs.BudgetTreeLaws.{enough, one_budget_tree}
+use Rattle.local_trees.specs.Steady.{IsBudgetValue, IsLeastSteady}
+use Rattle.local_trees.proofs.BudgetTreeLaws.{enough, one_budget_tree}
 use Rattle.local_value.proofs.OptionsLaws.{canonical-as}
 use Rattle.endgame_solver.specs.Regions.{region_at, no_region}
 use Rattle.cycle_solver.specs.Begun.{IsReport}

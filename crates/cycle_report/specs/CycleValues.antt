@@ -6,7 +6,7 @@ use Rattle.go_grid.specs.Region.{Region}
 use Rattle.region_cut.specs.Cut.{lowest}
 use Rattle.short_games.specs.Tree.{Tree}
 use Rattle.game_text.specs.NamedText.{named_text}
-use Rattle.local_value.specs.Steady.{IsBudgetValue, IsLeastSteady}
+use Rattle.local_trees.specs.Steady.{IsBudgetValue, IsLeastSteady}
 use Rattle.endgame_solver.specs.Regions.{region_at}
 use Rattle.endgame_solver.specs.Solved.{IsNumberOfPositions}
 use Rattle.game_lines.specs.Pictures.{Picture, IsPicture}

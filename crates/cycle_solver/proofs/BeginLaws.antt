@@ -14,7 +14,7 @@ use Rattle.whole_rules.specs.Purses.{purse}
 use Rattle.whole_rules.specs.WholeGame.{Whole}
 use Rattle.whole_rules.proofs.WallLaws.{keeps_start}
 use Rattle.local_value.specs.BudgetValues.{plain_graph}
-use Rattle.local_value.specs.Values.{IsPlaceOf}
+use Rattle.local_trees.specs.GraphPlaces.{IsPlaceOf}
 use Rattle.short_games.specs.Tree.{Tree}
 use Rattle.endgame_solver.specs.Regions.{no_region, region_at}
 use Rattle.endgame_solver.specs.Limits.{Limits}

@@ -10,9 +10,9 @@ use Rattle.local_graph.specs.ReturnGraph.{ReturnGraph}
 use Rattle.short_games.specs.Tree.{Tree}
 use Rattle.short_games.proofs.OrderLaws.{same-sym, same-trans}
 use Rattle.local_value.specs.BudgetValues.{AreWithinLimits, IsBudgetValueAt, IsReturnGraphOf}
-use Rattle.local_value.specs.Steady.{IsBudgetValue, IsSteady}
-use Rattle.local_value.proofs.BudgetTreeLaws.{budget_tree, budgets-need_cycles, enough}
-use Rattle.local_value.proofs.TreeLaws.{trees-exist}
+use Rattle.local_trees.specs.Steady.{IsBudgetValue, IsSteady}
+use Rattle.local_trees.proofs.BudgetTreeLaws.{budget_tree, budgets-need_cycles, enough}
+use Rattle.local_trees.proofs.TreeLaws.{trees-exist}
 use Rattle.endgame_solver.specs.Limits.{Limits}
 use Rattle.cycle_solver.specs.Games.{MayBeSteady}
 

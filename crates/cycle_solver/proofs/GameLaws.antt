@@ -15,8 +15,8 @@ use Rattle.game_store.specs.Meaning.{Extends}
 use Rattle.game_canon.specs.Outcomes.{AreWithin}
 use Rattle.game_canon.specs.declared.errors.FormError.TheVariants.{Bounds, Parts}
 use Rattle.local_value.specs.BudgetValues.{AreWithinLimits, IsBudgetValueAt, IsNeeded, IsPastLimits, IsReturnGraphOf, budget_size, plain_graph}
-use Rattle.local_value.specs.Steady.{IsBudgetValue, IsLeastSteady}
-use Rattle.local_value.specs.Values.{IsPlaceOf}
+use Rattle.local_trees.specs.Steady.{IsBudgetValue, IsLeastSteady}
+use Rattle.local_trees.specs.GraphPlaces.{IsPlaceOf}
 use Rattle.local_value.proofs.SteadyLaws.{layers-serve}
 use Rattle.endgame_solver.specs.ModestGames.{most_value}
 use Rattle.endgame_solver.specs.Regions.{region_at}

@@ -16,9 +16,9 @@ use Rattle.game_store.specs.Forms.{HaveForms}
 use Rattle.game_canon.specs.Changes.{HasNumberPastBounds}
 use Rattle.game_canon.proofs.NumberPartLaws.{within-bounds}
 use Rattle.local_value.specs.BudgetValues.{IsReturnGraphOf, layer_with, plain_graph}
-use Rattle.local_value.specs.Steady.{IsBudgetValue, IsSteady}
-use Rattle.local_value.specs.Values.{IsPlaceOf}
-use Rattle.local_value.proofs.MoveLaws.{graph_position}
+use Rattle.local_trees.specs.Steady.{IsBudgetValue, IsSteady}
+use Rattle.local_trees.specs.GraphPlaces.{IsPlaceOf}
+use Rattle.local_trees.proofs.MoveLaws.{graph_position}
 use Rattle.region_book.specs.Shape.{colour_after}
 use Rattle.endgame_solver.specs.Limits.{Limits}
 use Rattle.endgame_solver.specs.inner.Sharing.{AreNegatives, IsTurnedValue}

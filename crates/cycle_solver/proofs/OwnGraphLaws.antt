@@ -24,8 +24,8 @@ use Rattle.local_graph.specs.ReturnGraph.{ReturnGraph}
 use Rattle.local_graph.proofs.OrderLemmas.{edge_for}
 use Rattle.local_graph.proofs.PlayLemmas.{plays_long}
 use Rattle.local_value.specs.BudgetValues.{plain_graph}
-use Rattle.local_value.specs.Values.{IsPlaceOf}
-use Rattle.local_value.proofs.MoveLaws.{graph_cells, graph_move, graph_next, graph_position}
+use Rattle.local_trees.specs.GraphPlaces.{IsPlaceOf}
+use Rattle.local_trees.proofs.MoveLaws.{graph_cells, graph_move, graph_next, graph_position}
 use Rattle.region_book.specs.Shape.{cell_after, colour_after}
 use Rattle.region_book.proofs.SymmetryLaws.{colour_back}
 use Rattle.endgame_solver.proofs.CarriedLaws.{Matched, matched_back, matched_one, move_matched, reach_matched}

@@ -10,7 +10,7 @@ use Rattle.local_graph.specs.inner.Graph.{edges_at}
 use Rattle.local_graph.specs.LocalGraph.{IsReachable}
 use Rattle.local_graph.specs.ReturnGraph.{IsOrderBetweenCaptures, IsReturningCaptureAt, ReturnGraph, StaysIn, TellReturns, order_for}
 use Rattle.local_value.specs.BudgetValues.{IsReturnGraphOf, plain_graph}
-use Rattle.local_value.proofs.MoveLaws.{graph_move}
+use Rattle.local_trees.proofs.MoveLaws.{graph_move}
 use Rattle.region_book.specs.Shape.{colour_after}
 use Rattle.region_book.proofs.SymmetryLaws.{colour_back}
 use Rattle.endgame_solver.proofs.CarriedLaws.{Matched, cycle_matched, matched_back, matched_one, reach_matched}

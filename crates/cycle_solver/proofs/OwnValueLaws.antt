@@ -17,11 +17,11 @@ use Rattle.short_games.proofs.OrderLaws.{same-path, same-refl, same-sym, same-tr
 use Rattle.short_games.proofs.ReductionLaws.{canonical-same}
 use Rattle.short_games.proofs.SumLaws.{has-neg_each, neg_each-has, neg-le, neg-left, neg-right, neg-plus, same-plus}
 use Rattle.game_players.specs.Players.{gain, options}
-use Rattle.local_value.specs.BudgetTree.{Budgeted, IsBudgetStep, IsBudgetTreeWithin, UsesBudget}
-use Rattle.local_value.specs.LocalGame.{Step}
-use Rattle.local_value.specs.Steady.{IsBudgetValue, IsLeastSteady, IsSteady}
-use Rattle.local_value.proofs.BudgetTreeLaws.{budget_tree, enough, one_budget_tree}
-use Rattle.local_value.proofs.TreeLaws.{same_options}
+use Rattle.local_trees.specs.BudgetTree.{Budgeted, IsBudgetStep, IsBudgetTreeWithin, UsesBudget}
+use Rattle.local_trees.specs.LocalGame.{Step}
+use Rattle.local_trees.specs.Steady.{IsBudgetValue, IsLeastSteady, IsSteady}
+use Rattle.local_trees.proofs.BudgetTreeLaws.{budget_tree, enough, one_budget_tree}
+use Rattle.local_trees.proofs.TreeLaws.{same_options}
 use Rattle.region_book.specs.Shape.{colour_after}
 use Rattle.region_book.proofs.SymmetryLaws.{colour_back}
 use Rattle.endgame_solver.specs.ShapeValues.{game_after}

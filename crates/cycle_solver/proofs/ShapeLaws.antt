@@ -5,9 +5,9 @@ use Rattle.go_grid.specs.declared.grid.Cell.{Cell}
 use Rattle.go_grid.specs.declared.grid.Colour.{Colour}
 use Rattle.go_grid.specs.declared.region.Touch.{Touch}
 use Rattle.short_games.proofs.OrderLaws.{same-sym, same-trans}
-use Rattle.local_value.specs.BudgetTree.{IsBudgetTree}
-use Rattle.local_value.specs.Steady.{IsLeastSteady}
-use Rattle.local_value.proofs.BudgetTreeLaws.{budget_depths, budget_tree, enough}
+use Rattle.local_trees.specs.BudgetTree.{IsBudgetTree}
+use Rattle.local_trees.specs.Steady.{IsLeastSteady}
+use Rattle.local_trees.proofs.BudgetTreeLaws.{budget_depths, budget_tree, enough}
 use Rattle.region_book.specs.Shape.{IsPartner, colour_after}
 use Rattle.region_book.proofs.SymmetryLaws.{colour_back}
 use Rattle.endgame_solver.specs.ShapeValues.{game_after}

@@ -22,8 +22,8 @@ use Rattle.region_cut.specs.LocalBoard.{HoldsPosition}
 use Rattle.region_cut.proofs.LocalBoardLemmas.{only_region, placing_is_local, plays_locally, point_contested}
 use Rattle.short_games.specs.Tree.{Tree}
 use Rattle.local_value.specs.BudgetValues.{plain_graph}
-use Rattle.local_value.specs.Values.{IsPlaceOf}
-use Rattle.local_value.proofs.MoveLaws.{IsEdgeFor, graph_edge, graph_move, graph_next, graph_taken}
+use Rattle.local_trees.specs.GraphPlaces.{IsPlaceOf}
+use Rattle.local_trees.proofs.MoveLaws.{IsEdgeFor, graph_edge, graph_move, graph_next, graph_taken}
 use Rattle.endgame_solver.specs.Regions.{no_region, region_at}
 use Rattle.endgame_solver.proofs.WholeLaws.{IsHeld, held_after, position_in}
 use Rattle.whole_budgets.specs.BudgetPlay.{IsReturningCapture}

@@ -22,7 +22,7 @@ use Rattle.game_store.specs.Meaning.{pick}
 use Rattle.game_canon.specs.Outcomes.{AreWithin}
 use Rattle.game_players.specs.Players.{LosesGame}
 use Rattle.sum_outcome.specs.Sums.{IsBounded, sum_tree}
-use Rattle.local_value.specs.Steady.{IsBudgetValue, IsSteady}
+use Rattle.local_trees.specs.Steady.{IsBudgetValue, IsSteady}
 use Rattle.endgame_solver.specs.Decomposition.{money_tree}
 use Rattle.endgame_solver.specs.ModestGames.{AreModestGames, most_value}
 use Rattle.endgame_solver.specs.Regions.{no_region, region_at}

@@ -19,8 +19,8 @@ use Rattle.short_games.specs.Number.{num}
 use Rattle.short_games.specs.Sum.{◌+ᵍ◌, total}
 use Rattle.short_games.proofs.OrderLaws.{same-refl}
 use Rattle.game_players.proofs.PlayerLaws.{loses-or_not}
-use Rattle.local_value.specs.Steady.{IsSteady}
-use Rattle.local_value.proofs.BudgetTreeLaws.{budget_trees-exist}
+use Rattle.local_trees.specs.Steady.{IsSteady}
+use Rattle.local_trees.proofs.BudgetTreeLaws.{budget_trees-exist}
 use Rattle.endgame_solver.specs.Regions.{no_region}
 use Rattle.endgame_solver.specs.SumGame.{balance}
 use Rattle.endgame_solver.specs.Thresholds.{BlackWins, HasOne, IsLeastWin}

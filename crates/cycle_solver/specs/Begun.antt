@@ -6,7 +6,7 @@ use Rattle.go_play.specs.Setup.{Setup}
 use Rattle.go_grid.specs.Region.{Region}
 use Rattle.region_cut.specs.Cut.{AreRegionsOfPlay, lowest}
 use Rattle.short_games.specs.Tree.{Tree, tree_at}
-use Rattle.local_value.specs.Steady.{IsBudgetValue, IsLeastSteady}
+use Rattle.local_trees.specs.Steady.{IsBudgetValue, IsLeastSteady}
 use Rattle.endgame_solver.specs.Solved.{IsNumberOfPositions, OpensAs, Solved}
 use Rattle.endgame_solver.specs.Limits.{Limits}
 use Rattle.cycle_solver.specs.declared.cycle_game.CycleReport.{CycleReport}

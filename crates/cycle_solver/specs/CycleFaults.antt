@@ -9,7 +9,7 @@ use Rattle.short_games.specs.Tree.{Tree}
 use Rattle.short_games.specs.Parts.{HasMoreParts}
 use Rattle.game_canon.specs.Changes.{HasNumberPastBounds}
 use Rattle.local_value.specs.BudgetValues.{IsNeeded}
-use Rattle.local_value.specs.Steady.{IsBudgetValue, IsLeastSteady}
+use Rattle.local_trees.specs.Steady.{IsBudgetValue, IsLeastSteady}
 use Rattle.endgame_solver.specs.Faults.{AreSmallRegions, IsFirstLarge}
 use Rattle.endgame_solver.specs.Regions.{region_at}
 use Rattle.endgame_solver.specs.Limits.{Limits}

@@ -19,8 +19,8 @@ use Rattle.local_graph.specs.inner.Graph.{edges_at}
 use Rattle.short_games.specs.Tree.{Tree, tree_at}
 use Rattle.game_canon.specs.Outcomes.{AreWithin}
 use Rattle.local_value.specs.BudgetValues.{AreBudgetValues, IsReturnGraphOf, layer_with, plain_graph}
-use Rattle.local_value.specs.Steady.{IsLeastSteady}
-use Rattle.local_value.specs.Values.{IsPlaceOf}
+use Rattle.local_trees.specs.Steady.{IsLeastSteady}
+use Rattle.local_trees.specs.GraphPlaces.{IsPlaceOf}
 use Rattle.endgame_solver.specs.ModestGames.{most_value}
 use Rattle.endgame_solver.specs.Regions.{IsStoneAt, region_at}
 use Rattle.cycle_solver.specs.declared.asking.Present.{Present}

@@ -5,8 +5,8 @@ use Rattle.go_grid.specs.declared.grid.Colour.{Colour}
 use Rattle.go_grid.specs.declared.region.Touch.{Touch}
 use Rattle.short_games.specs.Tree.{Tree}
 use Rattle.short_games.specs.Order.{◌≡ᵍ◌}
-use Rattle.local_value.specs.BudgetTree.{IsBudgetTree}
-use Rattle.local_value.specs.Steady.{IsSteadyValue}
+use Rattle.local_trees.specs.BudgetTree.{IsBudgetTree}
+use Rattle.local_trees.specs.Steady.{IsSteadyValue}
 use Rattle.region_book.specs.declared.symmetry.Symmetry.{Symmetry}
 use Rattle.region_book.specs.Shape.{Carries, IsPartner, colour_after}
 use Rattle.endgame_solver.specs.ShapeValues.{AreLinked, game_after}

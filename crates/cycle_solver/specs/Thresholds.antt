@@ -10,7 +10,7 @@ use Rattle.whole_rules.specs.OpeningWith.{Ground, OpensWith}
 use Rattle.whole_rules.specs.Threshold.{stones}
 use Rattle.whole_rules.specs.Walls.{Plays}
 use Rattle.whole_rules.specs.WholeGame.{Whole}
-use Rattle.local_value.specs.Steady.{IsSteady}
+use Rattle.local_trees.specs.Steady.{IsSteady}
 use Rattle.endgame_solver.specs.Thresholds.{HasOne}
 use Rattle.cycle_solver.specs.declared.thresholds.Thresholds.{Thresholds}
 

@@ -16,8 +16,8 @@ use Rattle.short_games.proofs.SumLaws.InSum.{in_first, in_second}
 use Rattle.short_games.proofs.ThresholdLaws.{scaled}
 use Rattle.game_players.specs.Players.{LosesGame, gain, options}
 use Rattle.game_players.proofs.PlayerLaws.{loses-same, option_in_first, option_in_second, option_of_sum, wins-option}
-use Rattle.local_value.specs.LocalGame.{Step, tree_within}
-use Rattle.local_value.proofs.TreeLaws.{option-move}
+use Rattle.local_trees.specs.LocalGame.{Step, tree_within}
+use Rattle.local_trees.proofs.TreeLaws.{option-move}
 use Rattle.endgame_solver.specs.SumGame.{AllEnd, parts_tree}
 
 -- the player has an option that is as good as the game, but for any number above 0

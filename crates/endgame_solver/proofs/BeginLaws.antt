@@ -40,8 +40,8 @@ use Rattle.region_cut.specs.LocalBoard.{PlaysLocally}
 use Rattle.short_games.specs.Tree.{Tree}
 use Rattle.endgame_solver.specs.inner.Solving.{AreSolvedBelow}
 use Rattle.whole_rules.specs.declared.money.Token.TheVariants as token
-use Rattle.local_value.specs.Values.{IsPlaceOf}
-use Rattle.local_value.proofs.MoveLaws.{contains-cases, contains-head, contains-tail}
+use Rattle.local_trees.specs.GraphPlaces.{IsPlaceOf}
+use Rattle.local_trees.proofs.MoveLaws.{contains-cases, contains-head, contains-tail}
 use Rattle.local_value.proofs.PassLaws.{order_short}
 use Rattle.region_cut.proofs.LocalBoardLemmas.{holds_start, point_contested}
 

@@ -34,9 +34,9 @@ use Rattle.short_games.proofs.OrderLaws.{same-path, same-refl, same-sym, same-tr
 use Rattle.short_games.proofs.SumLaws.{has-neg_each, neg_each-has, neg-left, neg-right, neg-plus, same-plus}
 use Rattle.game_canon.proofs.NegationLaws.{chosen}
 use Rattle.game_players.specs.Players.{gain, options}
-use Rattle.local_value.specs.LocalGame.{Step}
-use Rattle.local_value.specs.PositionTree.{IsStep, IsTreeOf}
-use Rattle.local_value.proofs.TreeLaws.{same_options}
+use Rattle.local_trees.specs.LocalGame.{Step}
+use Rattle.local_trees.specs.PositionTree.{IsStep, IsTreeOf}
+use Rattle.local_trees.proofs.TreeLaws.{same_options}
 use Rattle.endgame_solver.specs.ShapeValues.{AreLinked, ShapesKeepValues, game_after}
 
 -- Colours, cells and links, turned.

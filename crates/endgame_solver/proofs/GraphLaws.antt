@@ -20,9 +20,10 @@ use Rattle.short_games.specs.Parts.{HasMoreParts}
 use Rattle.short_games.proofs.ReductionLaws.{canonical-same}
 use Rattle.game_canon.specs.Changes.{HasNumberPastBounds}
 use Rattle.short_games.proofs.OrderLaws.{same-sym, same-trans}
-use Rattle.local_value.specs.PositionTree.{IsStep, IsValueOf, IsTreeOf}
-use Rattle.local_value.specs.Values.{IsGraphOf, IsPlaceOf, AreValues}
-use Rattle.local_value.proofs.TreeLaws.{trees-same, trees-exist}
+use Rattle.local_trees.specs.PositionTree.{IsStep, IsValueOf, IsTreeOf}
+use Rattle.local_trees.specs.GraphPlaces.{IsGraphOf, IsPlaceOf}
+use Rattle.local_value.specs.Values.{AreValues}
+use Rattle.local_trees.proofs.TreeLaws.{trees-same, trees-exist}
 use Rattle.endgame_solver.specs.Faults.{HasLargeForm}
 use Rattle.go_grid.proofs.PlayLemmas.{long_after}
 use Rattle.go_grid.specs.declared.grid.Colour.{Colour}
@@ -36,7 +37,7 @@ use Rattle.local_graph.specs.inner.Graph.{edges_at, no_edge}
 use Rattle.local_graph.proofs.EdgeListLemmas.{node_inside}
 use Rattle.local_graph.proofs.OrderLemmas.{edge_for, same_place}
 use Rattle.go_grid.proofs.DecidedLemmas.{Decided, alike, some_below}
-use Rattle.local_value.proofs.MoveLaws.{cells_at, move_of, next_place, position_at}
+use Rattle.local_trees.proofs.MoveLaws.{cells_at, move_of, next_place, position_at}
 use Rattle.region_book.specs.Shape.{colour_after}
 use Rattle.region_book.proofs.SymmetryLaws.{colour_back, back}
 use Rattle.endgame_solver.specs.inner.Views.{Serves, own}

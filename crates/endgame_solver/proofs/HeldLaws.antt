@@ -40,8 +40,8 @@ use Rattle.game_store.specs.Meaning.{pick}
 use Rattle.game_canon.specs.Outcomes.{AreWithin}
 use Rattle.game_players.specs.Players.{LosesGame}
 use Rattle.sum_outcome.specs.Sums.{AreBounds, IsBounded, sum_tree}
-use Rattle.local_value.specs.PositionTree.{IsValueOf}
-use Rattle.local_value.proofs.MoveLaws.{IsEdgeFor, edge_of, move_of, next_place, taken_less}
+use Rattle.local_trees.specs.PositionTree.{IsValueOf}
+use Rattle.local_trees.proofs.MoveLaws.{IsEdgeFor, edge_of, move_of, next_place, taken_less}
 use Rattle.endgame_solver.specs.Regions.{no_region, region_at}
 use Rattle.endgame_solver.specs.Solved.{ArePresent, IsValueId, balance_units}
 use Rattle.endgame_solver.specs.SumGame.{AreModest, balance, halves}

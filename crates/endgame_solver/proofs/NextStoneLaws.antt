@@ -36,8 +36,8 @@ use Rattle.game_store.specs.Meaning.{pick}
 use Rattle.game_players.specs.Players.{LosesGame}
 use Rattle.sum_outcome.specs.Sums.{IsBounded, sum_tree}
 use Rattle.game_players.proofs.PlayerLaws.{loses-or_not}
-use Rattle.local_value.specs.PositionTree.{IsStep, IsTreeOf}
-use Rattle.local_value.proofs.TreeLaws.{trees-same}
+use Rattle.local_trees.specs.PositionTree.{IsStep, IsTreeOf}
+use Rattle.local_trees.proofs.TreeLaws.{trees-same}
 use Rattle.endgame_solver.specs.PlayLine.{IsAsGood, IsHot, IsHotStone, IsLineFrom, LeadsByBest}
 use Rattle.endgame_solver.specs.Regions.{no_region, region_at}
 use Rattle.endgame_solver.specs.SumGame.{AreModest, balance}

@@ -3,7 +3,7 @@ use Rattle.std.proofs.Common.{ℕ, zero, suc, ◌≤◌, arith, ◌≡◌, inl, 
 use Rattle.std.specs.List.{sum_by}
 use Rattle.std.proofs.lemmas.List.Sums.{get_or-le-sum_by}
 use Rattle.whole_rules.specs.PlainRecursion.{WinsWithin, LosesWithin}
-use Rattle.local_value.specs.Ending.{EndsWithin}
+use Rattle.local_trees.specs.Ending.{EndsWithin}
 use Rattle.go_grid.specs.declared.grid.Colour.{Colour}
 use Rattle.go_grid.specs.Board.{other}
 use Rattle.short_games.specs.Tree.{Tree, Has, neg, node, none}
@@ -22,9 +22,9 @@ use Rattle.endgame_solver.specs.SumGame.EachPlayEnds.{ends}
 use Rattle.whole_rules.specs.Purses.{purse, paid_in, paid_out, halved}
 use Rattle.whole_rules.specs.declared.money.Purses.{Purses}
 use Rattle.short_games.proofs.OrderLaws.{same-refl, same-path, same-sym, same-trans}
-use Rattle.local_value.specs.LocalGame.{Step, StepsTo, tree_within}
-use Rattle.local_value.proofs.MoveLaws.{contains-cases, contains-head, contains-tail}
-use Rattle.local_value.proofs.TreeLaws.{move-option, option-move}
+use Rattle.local_trees.specs.LocalGame.{Step, StepsTo, tree_within}
+use Rattle.local_trees.proofs.MoveLaws.{contains-cases, contains-head, contains-tail}
+use Rattle.local_trees.proofs.TreeLaws.{move-option, option-move}
 use Rattle.whole_rules.proofs.OutcomeLaws.{wins-not_loses}
 use Rattle.whole_rules.specs.declared.money.Token.TheVariants as token
 

@@ -8,7 +8,7 @@ use Rattle.local_graph.specs.Graph.{Graph}
 use Rattle.short_games.specs.Tree.{Tree, tree_at, neg}
 use Rattle.game_store.specs.Meaning.{Extends, AreIds, AreCanonical}
 use Rattle.game_canon.specs.Outcomes.{AreWithin, IsCanonicalId}
-use Rattle.local_value.specs.PositionTree.{IsValueOf}
+use Rattle.local_trees.specs.PositionTree.{IsValueOf}
 use Rattle.endgame_solver.specs.Faults.{AreRefused, AreSmallRegions}
 use Rattle.endgame_solver.specs.inner.Held.{ids_at, most_units}
 use Rattle.endgame_solver.specs.Regions.{no_region, region_at}
@@ -26,11 +26,11 @@ use Rattle.endgame_solver.specs.inner.Sharing.{AreNegatives, IsTurnedValue, AreK
 use Rattle.std.proofs.lemmas.List.Elements.{Contains-get_or}
 use Rattle.local_graph.specs.declared.graph.Edge.{Edge}
 use Rattle.local_graph.specs.inner.Graph.{edges_at}
-use Rattle.local_value.proofs.MoveLaws.{cells_at, move_of}
+use Rattle.local_trees.proofs.MoveLaws.{cells_at, move_of}
 use Rattle.local_graph.proofs.PlayLemmas.{plays_long}
 use Rattle.game_store.specs.Forms.{HaveForms}
 use Rattle.short_games.proofs.OrderLaws.{le-refl}
-use Rattle.local_value.specs.Values.{IsGraphOf}
+use Rattle.local_trees.specs.GraphPlaces.{IsGraphOf}
 use Rattle.region_book.specs.Image.{IsShape}
 use Rattle.region_book.specs.Law.{Meet, differ}
 use Rattle.region_book.specs.declared.symmetry.Symmetry.{Symmetry}

@@ -41,12 +41,12 @@ use Rattle.local_graph.specs.declared.cycle.CycleMove.{CycleMove}
 use Rattle.local_graph.specs.FiniteLocalPlay.{HasNoCycle}
 use Rattle.local_graph.specs.LocalGraph.{IsReachable}
 use Rattle.local_graph.proofs.PlayLemmas.{plays_long, plays_more}
-use Rattle.local_value.specs.Ending.{EndsWithin}
-use Rattle.local_value.specs.Laws.{MovesTo}
-use Rattle.local_value.specs.LocalGame.{Step, StepsTo, tree_within}
-use Rattle.local_value.specs.PositionTree.{IsTreeOf, IsValueOf, PlaysAreShort}
-use Rattle.local_value.proofs.TreeLaws.{cells_end, from_step, step_from, tree_as, trees-exist, short_plays}
-use Rattle.local_value.proofs.MoveLaws.{steps}
+use Rattle.local_trees.specs.Ending.{EndsWithin}
+use Rattle.local_trees.specs.Laws.{MovesTo}
+use Rattle.local_trees.specs.LocalGame.{Step, StepsTo, tree_within}
+use Rattle.local_trees.specs.PositionTree.{IsTreeOf, IsValueOf, PlaysAreShort}
+use Rattle.local_trees.proofs.TreeLaws.{cells_end, from_step, step_from, tree_as, trees-exist, short_plays}
+use Rattle.local_trees.proofs.MoveLaws.{steps}
 use Rattle.region_cut.specs.Cut.{AreRegionsOfPlay}
 use Rattle.region_cut.specs.LocalBoard.{HoldsPosition, IsLocal}
 use Rattle.region_cut.proofs.LocalBoardLemmas.{holds_start, only_region, other_kept, holds_after, placing_is_local, plays_locally, point_contested}

@@ -20,7 +20,7 @@ use Rattle.short_games.specs.Tree.{Tree, Trees, none, more}
 use Rattle.short_games.specs.Number.{num}
 use Rattle.short_games.specs.Sum.{◌+ᵍ◌, total}
 use Rattle.game_players.specs.Players.{credit, LosesGame}
-use Rattle.local_value.specs.PositionTree.{IsTreeOf}
+use Rattle.local_trees.specs.PositionTree.{IsTreeOf}
 use Rattle.endgame_solver.specs.SumGame.{token_tree}
 
 -- the trees of the positions that the board holds in the regions

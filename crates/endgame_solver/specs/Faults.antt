@@ -11,7 +11,7 @@ use Rattle.region_cut.specs.Cut.{lowest}
 use Rattle.short_games.specs.Tree.{Tree}
 use Rattle.short_games.specs.Parts.{HasMoreParts}
 use Rattle.game_canon.specs.Changes.{HasNumberPastBounds}
-use Rattle.local_value.specs.PositionTree.{IsValueOf}
+use Rattle.local_trees.specs.PositionTree.{IsValueOf}
 use Rattle.endgame_solver.specs.Regions.{region_at}
 use Rattle.endgame_solver.specs.Limits.{Limits}
 use Rattle.endgame_solver.specs.declared.faults.SolveError.{SolveError}

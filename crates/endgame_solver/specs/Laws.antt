@@ -3,7 +3,7 @@ use Rattle.std.specs.Prelude.{ℕ, List, Contains}
 use Rattle.go_grid.specs.declared.grid.Colour.{Colour}
 use Rattle.short_games.specs.Order.{◌≡ᵍ◌}
 use Rattle.short_games.specs.Number.{num}
-use Rattle.local_value.specs.LocalGame.{Step}
+use Rattle.local_trees.specs.LocalGame.{Step}
 use Rattle.endgame_solver.specs.SumGame.{State, AllEnd, EachPlayEnds, IsDecidedBy, state_tree, purses_tree, balance}
 use Rattle.whole_rules.specs.declared.money.Purses.{Purses}
 

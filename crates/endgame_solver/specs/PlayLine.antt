@@ -13,7 +13,7 @@ use Rattle.whole_rules.specs.WholeGame.{Whole, IsLegal, IsMove}
 use Rattle.region_cut.specs.LocalBoard.{HoldsPosition}
 use Rattle.short_games.specs.Tree.{Tree}
 use Rattle.short_games.specs.Number.{IsNumber}
-use Rattle.local_value.specs.PositionTree.{IsTreeOf}
+use Rattle.local_trees.specs.PositionTree.{IsTreeOf}
 use Rattle.endgame_solver.specs.Thresholds.{IsWithoutCycle}
 
 -- no tree of the region's present position is equal to a number

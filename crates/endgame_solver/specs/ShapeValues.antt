@@ -5,7 +5,7 @@ use Rattle.go_grid.specs.declared.region.Touch.{Touch}
 use Rattle.go_grid.specs.Region.{touch_at}
 use Rattle.short_games.specs.Tree.{Tree, neg}
 use Rattle.short_games.specs.Order.{◌≡ᵍ◌}
-use Rattle.local_value.specs.PositionTree.{IsTreeOf}
+use Rattle.local_trees.specs.PositionTree.{IsTreeOf}
 use Rattle.region_book.specs.declared.symmetry.Symmetry.{Symmetry}
 use Rattle.region_book.specs.Shape.{Carries, Direction, IsPartner, link}
 

@@ -14,7 +14,7 @@ use Rattle.whole_rules.specs.WholeGame.{Whole, IsLegal, IsFirstMove}
 use Rattle.whole_rules.specs.FirstWinningMove.{IsFirstWinning}
 use Rattle.whole_rules.specs.declared.states.Move.{Move}
 use Rattle.short_games.specs.Tree.{Tree, tree_at}
-use Rattle.local_value.specs.PositionTree.{IsValueOf}
+use Rattle.local_trees.specs.PositionTree.{IsValueOf}
 use Rattle.endgame_solver.specs.Regions.{region_at}
 use Rattle.endgame_solver.specs.SumGame.{balance}
 use Rattle.endgame_solver.specs.Faults.{AreSound, AreRefused}

@@ -8,12 +8,12 @@ use Rattle.whole_rules.specs.Purses.{purse, paid_in, paid_out, halved}
 use Rattle.whole_rules.specs.declared.money.Token.{Token}
 use Rattle.whole_rules.specs.declared.money.Token.TheVariants as token
 use Rattle.whole_rules.specs.PlainRecursion.{MoverWins, MoverLoses}
-use Rattle.local_value.specs.Ending.{EndsWithin}
+use Rattle.local_trees.specs.Ending.{EndsWithin}
 use Rattle.short_games.specs.Tree.{Tree, node, none}
 use Rattle.short_games.specs.Sum.{◌+ᵍ◌}
 use Rattle.short_games.specs.Number.{num}
 use Rattle.game_players.specs.Players.{credit, gain, LosesGame}
-use Rattle.local_value.specs.LocalGame.{Step, StepsTo, tree_within}
+use Rattle.local_trees.specs.LocalGame.{Step, StepsTo, tree_within}
 
 -- the tree of a token: half a unit for its owner
 abbrev pub token_tree : Token → Tree

@@ -11,7 +11,7 @@ use Rattle.whole_budgets.specs.EnginePlay.{EngineMoves, HasAtTurn, MovesWith}
 use Rattle.whole_budgets.proofs.BudgetPlayLemmas.{budgets_win, other_not}
 use Rattle.engine_player.specs.Played.{EnginePlays, Keeping, Played, keeping_with}
 use Rattle.engine_player.specs.EngineGame.{EngineGame, EngineGoes, GoesByHand, MovesKeeping}
-use Rattle.engine_budgets.proofs.OneMoveLemmas.{one_engine_move}
+use Rattle.whole_budgets.proofs.OneMoveLemmas.{one_engine_move}
 use Rattle.engine_player.proofs.MoveLaws.{one_choice}
 
 -- the engine's move is a move

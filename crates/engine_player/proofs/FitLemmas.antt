@@ -17,9 +17,9 @@ use Rattle.endgame_solver.proofs.BeginLaws.{purse_few}
 use Rattle.endgame_solver.proofs.BookkeepingLaws.{out-less}
 use Rattle.whole_budgets.specs.EnginePlay.{Serves}
 use Rattle.cycle_solver.specs.Begun.{Begun}
-use Rattle.engine_budgets.specs.EngineLaws.{IsReached}
-use Rattle.engine_budgets.proofs.ReachedLemmas.{board_long, reached_less, reached_on}
-use Rattle.engine_budgets.proofs.ServeLemmas.{serves_behind}
+use Rattle.whole_budgets.specs.EngineLaws.{IsReached}
+use Rattle.whole_budgets.proofs.ReachedLemmas.{board_long, reached_less, reached_on}
+use Rattle.whole_budgets.proofs.ServeLemmas.{serves_behind}
 use Rattle.engine_player.specs.declared.cycle_player.TheConstants.{MOST_MOVES}
 use Rattle.engine_player.specs.declared.kept.Kept.{Kept}
 use Rattle.engine_player.specs.Played.{BothServe}

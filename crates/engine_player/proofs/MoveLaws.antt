@@ -6,7 +6,7 @@ use Rattle.whole_rules.specs.declared.states.Move.{Move}
 use Rattle.whole_rules.specs.declared.states.Move.TheVariants.{Stone, Spend, Half}
 use Rattle.whole_rules.proofs.PlacingLaws.{as_long}
 use Rattle.endgame_solver.specs.Solved.{Chooses}
-use Rattle.engine_budgets.proofs.OneMoveLemmas.{same_rank}
+use Rattle.whole_budgets.proofs.OneMoveLemmas.{same_rank}
 
 -- moves leave the board's size
 pub cells_kept : (s t : Whole) (m : Move) → IsMove s m t → length t.board.cells ≡ length s.board.cells

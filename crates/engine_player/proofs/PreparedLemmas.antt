@@ -9,10 +9,10 @@ use Rattle.whole_rules.specs.WholeGame.{Whole, IsFirstMove, IsMove}
 use Rattle.whole_rules.proofs.PlainLaws.{move_same}
 use Rattle.endgame_solver.specs.Solved.{HasMove, Solved}
 use Rattle.whole_budgets.specs.EnginePlay.{AreLeastCaptures, AreListedAfter, AreReducedBelow, EngineMoves, HasAtTurn, HoldsOff, IsFirstKeeping, KeepsWinning, MovesWith, Serves, WinsWithList}
-use Rattle.engine_budgets.specs.EngineLaws.{IsReached}
-use Rattle.engine_budgets.proofs.EngineMoveLemmas.{some_keeps}
-use Rattle.engine_budgets.proofs.ReducedLemmas.{now_serves}
-use Rattle.engine_budgets.proofs.OneMoveLemmas.{one_listed, one_now, one_reduced}
+use Rattle.whole_budgets.specs.EngineLaws.{IsReached}
+use Rattle.whole_budgets.proofs.EngineMoveLemmas.{some_keeps}
+use Rattle.whole_budgets.proofs.ReducedLemmas.{now_serves}
+use Rattle.whole_budgets.proofs.OneMoveLemmas.{one_listed, one_now, one_reduced}
 use Rattle.cycle_solver.specs.Keeping.{HasRoom, IsFirstOf, Keeps}
 use Rattle.engine_player.specs.declared.cycle_player.TheConstants.{MOST_MOVES}
 use Rattle.engine_player.specs.Played.{EnginePlays, Played, kept_by, keeping_with}

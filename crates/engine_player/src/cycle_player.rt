@@ -7,7 +7,7 @@ ghost use Rattle.whole_rules.specs.Opening.{MayTax};
 ghost use Rattle.go_grid.specs.Board.{Board};
 ghost use Rattle.whole_rules.specs.Purses.{purse, taken_out};
 ghost use Rattle.whole_rules.specs.WholeGame.{Applies, Whole};
-ghost use Rattle.engine_budgets.specs.EngineLaws.{IsReached};
+ghost use Rattle.whole_budgets.specs.EngineLaws.{IsReached};
 ghost use Rattle.endgame_solver.specs.Faults.{most_steps};
 ghost use Rattle.endgame_solver.specs.Solved.{HasMove};
 ghost use Rattle.whole_budgets.specs.EnginePlay.{EngineMoves, Serves};

@@ -30,16 +30,16 @@ use Rattle.game_canon.proofs.CanonicalFormLaws.{made-no_number}
 use Rattle.game_canon.proofs.ChangeLaws.{tree-number}
 use Rattle.game_canon.proofs.PartLaws.{fewer}
 use Rattle.game_players.specs.Players.{gain, options}
-use Rattle.local_value.specs.LocalGame.{Step}
-use Rattle.local_value.specs.Values.{IsPlaceOf}
-use Rattle.local_value.specs.BudgetTree.{Budgeted, UsesBudget, IsBudgetAfter, IsBudgetStep, IsBudgetTreeWithin, IsBudgetTree}
+use Rattle.local_trees.specs.LocalGame.{Step}
+use Rattle.local_trees.specs.GraphPlaces.{IsPlaceOf}
+use Rattle.local_trees.specs.BudgetTree.{Budgeted, UsesBudget, IsBudgetAfter, IsBudgetStep, IsBudgetTreeWithin, IsBudgetTree}
 use Rattle.local_value.specs.BudgetValues.{IsReturnGraphOf, plain_graph, IsBudgetValueAt, IsPastLimits}
 use Rattle.local_value.specs.inner.Layers.{IsFollowed, AreFollowed, IsLayerValue, layer_size, IsLayer, AreLayers, IsBudgetLeft, IsLayerBack, IsRoom, IsUnchanged, IsKept, IsMade}
 use Rattle.local_value.specs.inner.Valuing.{noted, IsNoted, tree_after, AreWithinAfter, HasEdges, most_units}
-use Rattle.local_value.proofs.BudgetTreeLaws.{with_budget, enough, budget_tree, budget_depths}
-use Rattle.local_value.proofs.MoveLaws.{IsEdgeFor, graph_move, graph_edge, graph_next, graph_position, graph_taken}
+use Rattle.local_trees.proofs.BudgetTreeLaws.{with_budget, enough, budget_tree, budget_depths}
+use Rattle.local_trees.proofs.MoveLaws.{IsEdgeFor, graph_move, graph_edge, graph_next, graph_position, graph_taken}
 use Rattle.local_value.proofs.OptionsLaws.{canonical-as, number-as}
-use Rattle.local_value.proofs.TreeLaws.{trees-match}
+use Rattle.local_trees.proofs.TreeLaws.{trees-match}
 
 -- One pass over the places.
 

@@ -1,8 +1,3 @@
-pub mod MoveLaws
-pub mod TreeLaws
-pub mod PositionLemmas
-pub mod BudgetTreeLaws
-pub mod ExchangeLaws
 pub mod KnownLemmas
 pub mod OptionNumberLemmas
 pub mod OptionsLaws

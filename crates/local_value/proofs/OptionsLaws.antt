@@ -37,7 +37,7 @@ use Rattle.short_games.specs.Order.{◌≤ᵍ◌, ◌≡ᵍ◌}
 use Rattle.short_games.proofs.OrderLaws.{le-in, le-out, le-refl, le-trans, same-path, same-sym, same-trans}
 use Rattle.game_canon.specs.declared.errors.FormError.{FormError}
 use Rattle.std.proofs.lemmas.Result.{IfErr-weaker, IfOk-weaker}
-use Rattle.local_value.proofs.TreeLaws.{same_options as alike_options}
+use Rattle.local_trees.proofs.TreeLaws.{same_options as alike_options}
 
 -- What is remembered stays right.
 

@@ -22,13 +22,14 @@ use Rattle.game_canon.proofs.PartLaws.{fewer}
 use Rattle.short_games.proofs.OrderLaws.{same-path, same-refl, same-trans}
 use Rattle.short_games.proofs.SumLaws.{same-plus}
 use Rattle.game_canon.proofs.NumberSizeLaws.{own-number}
-use Rattle.local_value.specs.Ending.{EndsWithin}
-use Rattle.local_value.specs.inner.GraphMoves.{step_of, steps_of}
-use Rattle.local_value.specs.LocalGame.{Step, StepsTo, tree_within}
-use Rattle.local_value.specs.Values.{IsGraphOf, IsPlaceOf, AreValues}
+use Rattle.local_trees.specs.Ending.{EndsWithin}
+use Rattle.local_trees.proofs.GraphMoves.{step_of, steps_of}
+use Rattle.local_trees.specs.LocalGame.{Step, StepsTo, tree_within}
+use Rattle.local_trees.specs.GraphPlaces.{IsGraphOf, IsPlaceOf}
+use Rattle.local_value.specs.Values.{AreValues}
 use Rattle.local_value.specs.inner.Valuing.{noted, IsNoted, tree_after, AreWithinAfter, HasEdges, most_units}
-use Rattle.local_value.proofs.MoveLaws.{position_at, taken_less, steps-in, steps-out}
-use Rattle.local_value.proofs.TreeLaws.{place_ends, place_tree, move-option, option-move}
+use Rattle.local_trees.proofs.MoveLaws.{position_at, taken_less, steps-in, steps-out}
+use Rattle.local_trees.proofs.TreeLaws.{place_ends, place_tree, move-option, option-move}
 use Rattle.local_value.proofs.OptionsLaws.{no-edges, number-as}
 use Rattle.go_grid.specs.declared.grid.Cell.{Cell}
 use Rattle.local_graph.proofs.OrderLemmas.{same_place}
@@ -39,7 +40,7 @@ use Rattle.game_canon.specs.declared.errors.FormError.{FormError}
 use Rattle.game_canon.specs.declared.errors.FormError.TheVariants.{Parts, Bounds, Memory}
 use Rattle.game_canon.proofs.ChangeLaws.{tree-number}
 use Rattle.game_canon.proofs.CanonicalFormLaws.{made-no_number}
-use Rattle.local_value.specs.PositionTree.{IsValueOf}
+use Rattle.local_trees.specs.PositionTree.{IsValueOf}
 use Rattle.local_value.specs.Refusals.{IsValueAt, IsValueRefusal}
 use Rattle.local_graph.specs.declared.graph.TheConstants.{MOST_POSITIONS}
 

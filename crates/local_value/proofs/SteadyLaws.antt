@@ -23,15 +23,15 @@ use Rattle.game_canon.specs.Outcomes.{AreWithin}
 use Rattle.game_canon.proofs.NumberPartLaws.{within-bounds}
 use Rattle.local_value.specs.declared.budgets.BudgetError.{BudgetError}
 use Rattle.local_value.specs.declared.budgets.BudgetError.TheVariants.{Form}
-use Rattle.local_value.specs.Steady.{IsSteady, IsBudgetValue}
+use Rattle.local_trees.specs.Steady.{IsSteady, IsBudgetValue}
 use Rattle.local_value.specs.BudgetValues.{IsReturnGraphOf, plain_graph, IsBudgetValueAt, AreBudgetValues, AreWithinLimits, IsNeeded, IsPastLimits, budget_size, AreSteadyLayers, LayersServe}
-use Rattle.local_value.specs.Values.{IsPlaceOf}
+use Rattle.local_trees.specs.GraphPlaces.{IsPlaceOf}
 use Rattle.local_value.specs.inner.Layers.{layer_size, IsLayer, AreLayers}
-use Rattle.local_value.proofs.BudgetTreeLaws.{enough, budget_tree, budgets-need_cycles, steady_stays}
-use Rattle.local_value.proofs.MoveLaws.{graph_position}
+use Rattle.local_trees.proofs.BudgetTreeLaws.{enough, budget_tree, budgets-need_cycles, steady_stays}
+use Rattle.local_trees.proofs.MoveLaws.{graph_position}
 use Rattle.local_value.proofs.LayerPassLaws.{value-on}
 use Rattle.local_value.proofs.OptionsLaws.{canonical-as}
-use Rattle.local_value.proofs.TreeLaws.{trees-exist}
+use Rattle.local_trees.proofs.TreeLaws.{trees-exist}
 
 -- a graph that was built with what returns is that of its region
 pub return_graph_of : (r : Region) (g : ReturnGraph) (limit : ℕ) → length r.cells ≡ length r.points → BuiltWithReturns r limit (Ok g) → IsReturnGraphOf r g

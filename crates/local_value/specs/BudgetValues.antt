@@ -17,8 +17,8 @@ use Rattle.game_canon.specs.declared.errors.FormError.{FormError}
 use Rattle.game_canon.specs.declared.errors.FormError.TheVariants.{Parts, Bounds, Memory}
 use Rattle.local_value.specs.declared.budgets.BudgetError.{BudgetError}
 use Rattle.local_value.specs.declared.budgets.BudgetError.TheVariants.{Form, Captures}
-use Rattle.local_value.specs.Steady.{IsSteady, IsLeastSteady, IsBudgetValue}
-use Rattle.local_value.specs.Values.{IsPlaceOf}
+use Rattle.local_trees.specs.Steady.{IsSteady, IsLeastSteady, IsBudgetValue}
+use Rattle.local_trees.specs.GraphPlaces.{IsPlaceOf}
 
 -- the graph has exactly the reachable positions of the region and their moves, and tells which of these return
 pub record IsReturnGraphOf (r : Region) (g : ReturnGraph) : Type 0 where

@@ -9,8 +9,8 @@ use Rattle.short_games.specs.Parts.{HasMoreParts}
 use Rattle.game_canon.specs.Changes.{HasNumberPastBounds}
 use Rattle.game_canon.specs.declared.errors.FormError.{FormError}
 use Rattle.game_canon.specs.declared.errors.FormError.TheVariants.{Parts, Bounds, Memory}
-use Rattle.local_value.specs.PositionTree.{IsValueOf}
-use Rattle.local_value.specs.Values.{IsPlaceOf}
+use Rattle.local_trees.specs.PositionTree.{IsValueOf}
+use Rattle.local_trees.specs.GraphPlaces.{IsPlaceOf}
 
 -- V is the value of the position at the place
 pub record IsValueAt (r : Region) (g : Graph) (i : ℕ) (V : Tree) : Type 0 where

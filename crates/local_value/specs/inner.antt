@@ -1,5 +1,4 @@
 -- What loops and private calls keep; no public clause cites it.
-pub mod GraphMoves
 pub mod Options
 pub mod OptionSets
 pub mod Chains

@@ -19,7 +19,7 @@ mod values;
 
 pub use budget_values::{value_steady, value_steady_with};
 pub use budgets::BudgetError;
-pub use laws::{budget_tree_laws, position_tree_laws, steady_values_laws};
+pub use laws::steady_values_laws;
 pub use short_ids::ShortId;
 pub use steady_values::{Layer, SteadyValues};
 pub use value_memo::ValueMemo;

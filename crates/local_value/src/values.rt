@@ -11,7 +11,8 @@ ghost use Rattle.game_canon.specs.Outcomes.{IsCanonicalId, IsCause, AreWithin};
 ghost use Rattle.local_value.specs.Remembered.{options_of, AreStonesSumsRight};
 ghost use Rattle.local_value.specs.inner.Memo.{IsMemoRight};
 ghost use Rattle.local_value.specs.Refusals.{IsValueRefusal};
-ghost use Rattle.local_value.specs.Values.{IsGraphOf, AreValues};
+ghost use Rattle.local_trees.specs.GraphPlaces.{IsGraphOf};
+ghost use Rattle.local_value.specs.Values.{AreValues};
 ghost use Rattle.local_value.specs.inner.Valuing.{IsNoted, IsWithinAfter, AreWithinAfter, IsAfter, AreBothAfter, HasEdges, most_units};
 
 use crate::memo::{Memo, form_of, with_stones};

@@ -9,12 +9,12 @@ use Rattle.whole_rules.specs.FirstWinningMove.{IsWinner}
 use Rattle.whole_rules.specs.WholeGame.{Whole, IsMove}
 use Rattle.whole_rules.proofs.PlainLaws.{move_turn}
 use Rattle.whole_budgets.specs.EnginePlay.{EngineMoves, Serves}
-use Rattle.engine_budgets.specs.EngineLaws.{IsReached}
+use Rattle.whole_budgets.specs.EngineLaws.{IsReached}
 use Rattle.whole_rules.specs.declared.states.MoveError.{MoveError}
-use Rattle.engine_budgets.proofs.EndLemmas.{won_games_end}
-use Rattle.engine_budgets.proofs.KoLemmas.{keeps_simple_ko}
-use Rattle.engine_budgets.proofs.ReachedLemmas.{reached_on}
-use Rattle.engine_budgets.proofs.ServeLemmas.{serves_after, serves_behind}
+use Rattle.whole_budgets.proofs.EndLemmas.{won_games_end}
+use Rattle.whole_budgets.proofs.KoLemmas.{keeps_simple_ko}
+use Rattle.whole_budgets.proofs.ReachedLemmas.{reached_on}
+use Rattle.whole_budgets.proofs.ServeLemmas.{serves_after, serves_behind}
 use Rattle.engine_player.specs.Played.{BothServe, EnginePlays, Keeping, Played, kept_by, keeping_with}
 use Rattle.engine_player.specs.EngineGame.{EngineGame, EngineGoes, GoesByHand, MovesKeeping, kept_by_hand}
 use Rattle.engine_player.proofs.EngineGameLaws.{engine_moved}

@@ -9,7 +9,7 @@ use Rattle.whole_rules.specs.PlainRecursion.{MoverLoses}
 use Rattle.whole_rules.specs.declared.states.Move.{Move}
 use Rattle.whole_rules.specs.declared.states.Move.TheVariants.{Stone}
 use Rattle.whole_rules.specs.WholeGame.{Whole, IsMove, Leads}
-use Rattle.engine_budgets.specs.EngineLaws.{EndsAtTurn, IsReached}
+use Rattle.whole_budgets.specs.EngineLaws.{EndsAtTurn, IsReached}
 use Rattle.engine_player.specs.Played.{BothServe, Keeping, kept_by}
 use Rattle.play_session.specs.declared.end.SessionEnd.{SessionEnd}
 use Rattle.play_session.specs.declared.end.SessionEnd.TheVariants.{Lost}

@@ -20,9 +20,9 @@ use Rattle.whole_rules.proofs.WallLaws.{Keeps, keeps_move}
 use Rattle.local_graph.specs.Returns.{IsCapture, Returns}
 use Rattle.region_cut.specs.Cut.{AreRegionsOfPlay}
 use Rattle.region_cut.proofs.LocalBoardLemmas.{one_region, placing_is_local, plays_locally}
-use Rattle.local_value.specs.LocalGame.{Step}
-use Rattle.local_value.specs.BudgetTree as tree
-use Rattle.local_value.proofs.BudgetTreeLaws.{colour_or_not}
+use Rattle.local_trees.specs.LocalGame.{Step}
+use Rattle.local_trees.specs.BudgetTree as tree
+use Rattle.local_trees.proofs.BudgetTreeLaws.{colour_or_not}
 use Rattle.endgame_solver.specs.Regions.{no_region, region_at}
 use Rattle.endgame_solver.specs.SumGame.{State, Leads, StepIn}
 use Rattle.endgame_solver.proofs.PartsLaws.{Matches}

@@ -11,7 +11,7 @@ use Rattle.whole_rules.specs.declared.states.Move.TheVariants.{Stone, Spend, Hal
 use Rattle.whole_rules.specs.PlainRecursion.{WinsWithin, LosesWithin}
 use Rattle.whole_rules.specs.WholeGame.{Whole, Leads, IsMove}
 use Rattle.whole_rules.proofs.PlainLaws.{move_turn, one_winner}
-use Rattle.local_value.proofs.BudgetTreeLaws.{uses_or_not}
+use Rattle.local_trees.proofs.BudgetTreeLaws.{uses_or_not}
 use Rattle.whole_rules.specs.FirstWinningMove.{IsWinner}
 use Rattle.whole_budgets.specs.BudgetPlay.{Budgeted, WinsWithCaptures, position_on, IsReturningCapture, IsBudgetAfter, AreBudgetsAfter, AreAtMost, LeadsWithin}
 use Rattle.whole_budgets.specs.BudgetPlayLaws.{BudgetsWinTheGame, GreaterBudgetsWin, SomeCapturesWin, OneWinsWithBudgets}

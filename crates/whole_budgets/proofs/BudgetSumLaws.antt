@@ -25,10 +25,10 @@ use Rattle.short_games.proofs.OrderLaws.{same-refl, same-sym, same-trans}
 use Rattle.short_games.proofs.SumLaws.{same-plus}
 use Rattle.game_players.specs.Players.{LosesGame}
 use Rattle.game_players.proofs.PlayerLaws.{loses-same}
-use Rattle.local_value.specs.BudgetTree.{IsBudgetTree}
-use Rattle.local_value.specs.Ending.{EndsWithin}
-use Rattle.local_value.proofs.BudgetTreeLaws.{budget_tree, enough, steady_stays}
-use Rattle.local_value.specs.LocalGame.{tree_within}
+use Rattle.local_trees.specs.BudgetTree.{IsBudgetTree}
+use Rattle.local_trees.specs.Ending.{EndsWithin}
+use Rattle.local_trees.proofs.BudgetTreeLaws.{budget_tree, enough, steady_stays}
+use Rattle.local_trees.specs.LocalGame.{tree_within}
 use Rattle.endgame_solver.specs.Decomposition.{money_tree}
 use Rattle.endgame_solver.specs.Regions.{no_region, region_at}
 use Rattle.endgame_solver.specs.SumGame.{AllEnd, IsDecidedBy, Leads, State, parts_tree, purses_tree, state_tree}

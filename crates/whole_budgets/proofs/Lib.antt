@@ -10,3 +10,14 @@ pub mod BudgetPartsLemmas
 pub mod BudgetSumLaws
 pub mod DecidedPlayLemmas
 pub mod SuperkoLemmas
+pub mod ServeLemmas
+pub mod PurseLemmas
+pub mod ReachedLemmas
+pub mod OneMoveLemmas
+pub mod ReducedLemmas
+pub mod KoLemmas
+pub mod EngineMoveLemmas
+pub mod EndLemmas
+pub mod OrderLemmas
+pub mod AnewLemmas
+pub mod PlainLemmas

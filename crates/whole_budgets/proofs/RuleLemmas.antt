@@ -7,7 +7,7 @@ use Rattle.go_grid.specs.declared.grid.Colour.{Colour}
 use Rattle.go_grid.specs.declared.grid.Colour.TheVariants as colour
 use Rattle.go_grid.specs.Board.{Board}
 use Rattle.go_grid.proofs.DecidedLemmas.{Decided, alike, both, some_below}
-use Rattle.local_value.proofs.MoveLaws.{same_cells_or_not}
+use Rattle.local_trees.proofs.MoveLaws.{same_cells_or_not}
 use Rattle.whole_rules.specs.declared.states.Move.{Move}
 use Rattle.whole_rules.specs.declared.states.Move.TheVariants.{Stone, Spend, Half}
 use Rattle.whole_rules.specs.WholeGame.{Whole}

@@ -9,12 +9,12 @@ use Rattle.go_grid.specs.Region.{Region}
 use Rattle.go_grid.proofs.PlayLemmas.{long_after}
 use Rattle.short_games.specs.Tree.{Tree}
 use Rattle.short_games.specs.Order.{◌≡ᵍ◌}
-use Rattle.local_value.specs.BudgetTree.{Budgeted, IsBudgetStep, IsBudgetTree}
-use Rattle.local_value.specs.Ending.{EndsWithin}
-use Rattle.local_value.specs.LocalGame.{Step, StepsTo, tree_within}
-use Rattle.local_value.proofs.BudgetTreeLaws.{are_listed, budget_moves, budget_short, enough}
-use Rattle.local_value.proofs.MoveLaws.{contains-cases, contains-head, contains-tail}
-use Rattle.local_value.proofs.TreeLaws.{stands_end, stands_same}
+use Rattle.local_trees.specs.BudgetTree.{Budgeted, IsBudgetStep, IsBudgetTree}
+use Rattle.local_trees.specs.Ending.{EndsWithin}
+use Rattle.local_trees.specs.LocalGame.{Step, StepsTo, tree_within}
+use Rattle.local_trees.proofs.BudgetTreeLaws.{are_listed, budget_moves, budget_short, enough}
+use Rattle.local_trees.proofs.MoveLaws.{contains-cases, contains-head, contains-tail}
+use Rattle.local_trees.proofs.TreeLaws.{stands_end, stands_same}
 use Rattle.endgame_solver.specs.Regions.{region_at}
 use Rattle.endgame_solver.specs.SumGame.{StepIn}
 use Rattle.endgame_solver.proofs.WholeLaws.{limited, limited-in, limited-is}

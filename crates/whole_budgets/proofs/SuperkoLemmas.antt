@@ -7,7 +7,7 @@ use Rattle.go_grid.specs.declared.grid.Colour.TheVariants as colour
 use Rattle.go_grid.specs.Board.{other}
 use Rattle.local_graph.specs.inner.Ranks.{stones_of}
 use Rattle.local_graph.proofs.CaptureLemmas.{both_colours}
-use Rattle.local_value.proofs.MoveLaws.{contains-cases}
+use Rattle.local_trees.proofs.MoveLaws.{contains-cases}
 use Rattle.whole_rules.specs.declared.money.Token.TheVariants as token
 use Rattle.whole_rules.specs.declared.states.Move.{Move}
 use Rattle.whole_rules.specs.declared.states.Move.TheVariants.{Stone, Spend, Half}

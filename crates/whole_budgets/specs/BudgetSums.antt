@@ -15,8 +15,8 @@ use Rattle.whole_rules.specs.WholeGame.{Whole}
 use Rattle.short_games.specs.Tree.{Tree, Trees, none, more}
 use Rattle.short_games.specs.Sum.{◌+ᵍ◌, total}
 use Rattle.game_players.specs.Players.{LosesGame}
-use Rattle.local_value.specs.BudgetTree.{IsBudgetTree}
-use Rattle.local_value.specs.Steady.{IsSteady}
+use Rattle.local_trees.specs.BudgetTree.{IsBudgetTree}
+use Rattle.local_trees.specs.Steady.{IsSteady}
 use Rattle.endgame_solver.specs.Decomposition.{money_tree}
 use Rattle.whole_budgets.specs.BudgetPlay.{WinsWithBudgets}
 

@@ -6,3 +6,4 @@ pub mod SimpleKo
 pub mod BudgetSums
 pub mod EnginePlay
 pub mod SituationalSuperko
+pub mod EngineLaws

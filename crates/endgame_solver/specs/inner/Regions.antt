@@ -8,9 +8,9 @@ use Rattle.local_graph.specs.Graph.{Graph}
 use Rattle.local_graph.specs.inner.Graph.{edges_at}
 use Rattle.region_cut.specs.Cut.{AreRegionsOfPlay}
 use Rattle.region_cut.specs.LocalBoard.{HoldsPosition, PlaysLocally}
-use Rattle.local_value.specs.LocalGame.{Step}
-use Rattle.local_value.specs.inner.GraphMoves.{steps_of}
-use Rattle.local_value.specs.Values.{IsGraphOf, IsPlaceOf}
+use Rattle.local_trees.specs.LocalGame.{Step}
+use Rattle.local_trees.proofs.GraphMoves.{steps_of}
+use Rattle.local_trees.specs.GraphPlaces.{IsGraphOf, IsPlaceOf}
 use Rattle.endgame_solver.specs.Regions.{region_at}
 
 -- a position of a region: which region, and which place of its graph

@@ -5,7 +5,8 @@ use Rattle.local_graph.specs.LocalGraph.{MoreThan}
 use Rattle.local_graph.specs.Graph.{Graph}
 use Rattle.short_games.specs.Tree.{Tree, tree_at}
 use Rattle.game_canon.specs.Outcomes.{AreWithin}
-use Rattle.local_value.specs.Values.{IsGraphOf, AreValues}
+use Rattle.local_trees.specs.GraphPlaces.{IsGraphOf}
+use Rattle.local_value.specs.Values.{AreValues}
 use Rattle.endgame_solver.specs.Regions.{region_at}
 use Rattle.endgame_solver.specs.inner.Regions.{graph_at}
 use Rattle.endgame_solver.specs.Faults.{IsFaultOf, IsSound}

@@ -4,7 +4,7 @@ use Rattle.go_grid.specs.declared.grid.Cell.{Cell}
 use Rattle.go_grid.specs.Region.{Region}
 use Rattle.local_graph.specs.Graph.{Graph}
 use Rattle.short_games.specs.Tree.{Tree, tree_at}
-use Rattle.local_value.specs.PositionTree.{IsValueOf}
+use Rattle.local_trees.specs.PositionTree.{IsValueOf}
 use Rattle.endgame_solver.specs.Regions.{region_at}
 use Rattle.endgame_solver.specs.inner.Regions.{Spot, HasCells}
 

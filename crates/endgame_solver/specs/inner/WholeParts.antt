@@ -6,7 +6,7 @@ use Rattle.go_play.specs.Place.{IsPlaced, IsNumberTaken}
 use Rattle.benson_life.specs.Region.{IsContested}
 use Rattle.whole_rules.specs.WholeGame.{Whole}
 use Rattle.benson_life.specs.Walls.{WallsStand}
-use Rattle.local_value.specs.LocalGame.{Step}
+use Rattle.local_trees.specs.LocalGame.{Step}
 use Rattle.endgame_solver.specs.SumGame.{State}
 
 -- `InPart i p`: the point is in the part; `Shown h i q`: the board holds the local position in the part

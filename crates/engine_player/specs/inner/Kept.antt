@@ -9,7 +9,7 @@ use Rattle.endgame_solver.specs.Solved.{Solved}
 use Rattle.whole_budgets.specs.EnginePlay.{AreListedAfter, AreReducedBelow, HasAtTurn, WinsWithList}
 use Rattle.whole_rules.specs.declared.states.Move.{Move}
 use Rattle.whole_rules.specs.WholeGame.{IsMove, Whole}
-use Rattle.engine_budgets.specs.EngineLaws.{IsReached}
+use Rattle.whole_budgets.specs.EngineLaws.{IsReached}
 use Rattle.cycle_solver.specs.Keeping.{Keeps}
 use Rattle.engine_player.specs.declared.cycle_player.TheConstants.{MOST_MOVES}
 use Rattle.engine_player.specs.declared.kept.Kept.{Kept}

@@ -7,10 +7,10 @@ use Rattle.short_games.specs.Tree.{Tree, tree_at}
 use Rattle.short_games.specs.TextOrder.{IsCanonicalFor}
 use Rattle.short_games.specs.Parts.{HasMoreParts}
 use Rattle.game_canon.specs.Outcomes.{AreWithin, IsCanonicalId}
-use Rattle.local_value.specs.BudgetTree.{IsBudgetTree}
+use Rattle.local_trees.specs.BudgetTree.{IsBudgetTree}
 use Rattle.local_value.specs.BudgetValues.{plain_graph, Valued}
 use Rattle.local_value.specs.declared.budgets.BudgetError.{BudgetError}
-use Rattle.local_value.specs.Values.{IsPlaceOf}
+use Rattle.local_trees.specs.GraphPlaces.{IsPlaceOf}
 use Rattle.local_value.specs.inner.Valuing.{AreWithinAfter, HasEdges}
 use Rattle.go_grid.specs.declared.grid.Colour.{Colour}
 use Rattle.local_graph.specs.declared.graph.Edge.{Edge}

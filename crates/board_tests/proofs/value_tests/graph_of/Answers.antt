@@ -1,5 +1,5 @@
 use Rattle.std.proofs.Common.{◌≡◌, length, subst}
-use Rattle.local_value.proofs.MoveLaws.{graph_of}
+use Rattle.local_trees.proofs.MoveLaws.{graph_of}
 use Rattle.board_tests.proofs.value_tests.graph_of.Goals as goal
 
 pub returns-in-Ok-clause-graph : goal.returns-in-Ok-clause-graph

@@ -1,7 +1,7 @@
 use Rattle.std.proofs.Common.{IfErr, subst}
 use Rattle.go_grid.specs.Region.{Region}
 use Rattle.local_value.specs.Refusals.{IsValueRefusal}
-use Rattle.local_value.specs.Values.{IsGraphOf}
+use Rattle.local_trees.specs.GraphPlaces.{IsGraphOf}
 use Rattle.local_value.proofs.values.value_all.Goals as goal
 
 pub returns-clause-refusal : goal.returns-clause-refusal

@@ -3,7 +3,7 @@ use Rattle.std.proofs.lemmas.Result.{err_from_is_err_and}
 use Rattle.go_grid.specs.Region.{Region}
 use Rattle.game_canon.proofs.ChangedIdLaws.{passed-on}
 use Rattle.local_value.specs.Refusals.{IsValueRefusal}
-use Rattle.local_value.specs.Values.{IsGraphOf}
+use Rattle.local_trees.specs.GraphPlaces.{IsGraphOf}
 use Rattle.local_value.proofs.values.value_compact.Goals as goal
 
 pub value_places-valued-requires-clause-places : goal.value_places-valued-requires-clause-places

@@ -4,7 +4,7 @@ use Rattle.go_grid.specs.Region.{Region}
 use Rattle.game_canon.proofs.ChangedIdLaws.{extends-on, passed-on}
 use Rattle.game_canon.proofs.NumberPartLaws.{within-bounds}
 use Rattle.local_value.specs.Refusals.{IsValueRefusal}
-use Rattle.local_value.specs.Values.{IsGraphOf}
+use Rattle.local_trees.specs.GraphPlaces.{IsGraphOf}
 use Rattle.local_value.proofs.PassLaws.{IsPass, call, pass-parts, pass-sizes, pass-values}
 use Rattle.local_value.proofs.values.value_places.Goals as goal
 

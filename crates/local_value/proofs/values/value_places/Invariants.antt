@@ -1,7 +1,7 @@
 use Rattle.go_grid.specs.Region.{Region}
 use Rattle.game_store.specs.Meaning.{Extends}
 use Rattle.local_value.specs.inner.Memo.{IsMemoRight}
-use Rattle.local_value.specs.Values.{IsGraphOf}
+use Rattle.local_trees.specs.GraphPlaces.{IsGraphOf}
 use Rattle.local_value.proofs.PassLaws.{IsPass}
 use Rattle.local_value.proofs.values.value_places.Given as goal
 

@@ -1,6 +1,6 @@
 use Rattle.std.proofs.Common.{ap, arith, subst, sym, ◌∙◌, refl}
 use Rattle.whole_budgets.specs.EnginePlay.{Serves}
-use Rattle.engine_budgets.proofs.ServeLemmas.{serves_after}
+use Rattle.whole_budgets.proofs.ServeLemmas.{serves_after}
 use Rattle.engine_player.specs.inner.Kept.{IsFitPlayer, kept_of}
 use Rattle.engine_player.proofs.EngineGameLaws.{engine_moves_moved}
 use Rattle.engine_player.proofs.FitLemmas.{black_behind, white_behind, written_back}
