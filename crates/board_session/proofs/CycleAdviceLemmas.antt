@@ -11,7 +11,7 @@ use Rattle.whole_rules.specs.WholeGame.{IsLegal, Whole}
 use Rattle.endgame_solver.specs.Limits.{Limits}
 use Rattle.cycle_solver.specs.declared.faults.CycleError.{CycleError}
 use Rattle.cycle_solver.specs.declared.faults.CycleError.TheVariants.{Points, Positions, Form, Captures, Memory}
-use Rattle.engine_player.specs.declared.player.TheConstants.{MOST_CAPTURES}
+use Rattle.cycle_solver.specs.declared.limits.TheConstants.{MOST_CAPTURES}
 use Rattle.engine_player.specs.Played.{BeginsPlay, EnginePlays, Keeping, KeepsNothing, Played, kept_by}
 use Rattle.engine_player.proofs.EngineGameLaws.{engine_moves_moved}
 use Rattle.whole_budgets.specs.EnginePlay.{EngineMoves}

@@ -8,7 +8,7 @@ use Rattle.endgame_solver.specs.Solved.{Solved}
 use Rattle.cycle_solver.specs.Begun.{Begun}
 use Rattle.cycle_solver.specs.declared.faults.CycleError.{CycleError}
 use Rattle.cycle_solver.specs.declared.faults.CycleError.TheVariants.{Points, Positions, Form, Captures, Memory}
-use Rattle.engine_player.specs.declared.player.TheConstants.{MOST_CAPTURES}
+use Rattle.cycle_solver.specs.declared.limits.TheConstants.{MOST_CAPTURES}
 use Rattle.engine_player.specs.Played.{BeginsPlay}
 use Rattle.board_session.specs.declared.topic.CycleTopic.{CycleTopic}
 use Rattle.board_session.specs.Analysing.{gameless}

@@ -20,7 +20,7 @@ use Rattle.endgame_solver.proofs.BeginLaws.{one_regions}
 use Rattle.cycle_solver.specs.CycleFaults.{AreRefused, AreSteadyWithin}
 use Rattle.cycle_solver.specs.declared.faults.CycleError.{CycleError}
 use Rattle.cycle_solver.specs.declared.faults.CycleError.TheVariants.{Points, Positions, Form, Captures, Memory}
-use Rattle.engine_player.specs.declared.player.TheConstants.{MOST_CAPTURES}
+use Rattle.cycle_solver.specs.declared.limits.TheConstants.{MOST_CAPTURES}
 use Rattle.engine_player.specs.Played.{BeginsPlay}
 use Rattle.engine_player.proofs.EngineGameLaws.{engine_moves_lose, engine_moves_moved}
 use Rattle.engine_player.proofs.AlikeLaws.{move_back, opened_purses, winning_alike, wins_alike, with_marks}

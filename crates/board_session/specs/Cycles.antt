@@ -14,7 +14,7 @@ use Rattle.whole_budgets.specs.EnginePlay.{EngineMoves}
 use Rattle.cycle_solver.specs.CycleFaults.{AreSteadyWithin}
 use Rattle.cycle_solver.specs.declared.faults.CycleError.{CycleError}
 use Rattle.cycle_solver.specs.declared.faults.CycleError.TheVariants.{Points, Positions, Form, Captures, Memory}
-use Rattle.engine_player.specs.declared.player.TheConstants.{MOST_CAPTURES}
+use Rattle.cycle_solver.specs.declared.limits.TheConstants.{MOST_CAPTURES}
 use Rattle.engine_player.specs.Played.{BeginsPlay}
 use Rattle.fault_words.specs.FaultWords.{form_words, points_words, positions_words}
 use Rattle.board_session.specs.Generating.{Advice, Advises, PayFor, after_passes, chosen, resigned, setup_of, unopened, unsettled_words}

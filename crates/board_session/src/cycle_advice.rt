@@ -13,9 +13,9 @@ ghost use Rattle.board_session.specs.inner.Generating.{advice_of};
 
 use crate::advice::{Advice, pay};
 use board_orders::Tally;
-use cycle_solver::CycleError;
+use cycle_solver::{CycleError, MOST_CAPTURES};
 use endgame_solver::Limits;
-use engine_player::{CyclePlayer, MOST_CAPTURES};
+use engine_player::CyclePlayer;
 use fault_words::{Naming, form_words, points_words, positions_words};
 use go_grid::{Colour, Point, Size};
 use gtp_words::point_text;

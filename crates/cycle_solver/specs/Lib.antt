@@ -5,6 +5,7 @@ pub mod GameLists
 pub mod Games
 pub mod Held
 pub mod Keeping
+pub mod Limits
 pub mod ShapeBudgets
 pub mod Thresholds
 pub mod Turned

@@ -14,12 +14,12 @@ use Rattle.gtp_words.specs.Asking.{Asking, AsksInSession}
 use Rattle.gtp_words.specs.Loads.{AreLoads, Loads, RoseBy}
 use Rattle.gtp_words.specs.Sessions.{WritesByEnd, beginning}
 use Rattle.gtp_words.specs.Steps.{StepsByEnd, StepsOfLines, counted}
-use Rattle.endgame_run.specs.declared.status.Status.{Status}
-use Rattle.endgame_run.specs.declared.status.Status.TheVariants.{CannotRead, CannotWrite, Done, Memory, TooManyLines}
-use Rattle.endgame_run.specs.declared.status.Status.TheVariants as status
+use Rattle.endgame_questions.specs.declared.status.Status.{Status}
+use Rattle.endgame_questions.specs.declared.status.Status.TheVariants.{CannotRead, CannotWrite, Done, Memory, TooManyLines}
+use Rattle.endgame_questions.specs.declared.status.Status.TheVariants as status
 use Rattle.endgame_run.specs.Engine.{AreFailedLoads, AreSessionSteps, AsksForLines, IsEnginePlay, IsEngineStatus, IsEngineStopped, IsEngineWritten, SessionRules}
-use Rattle.endgame_run.specs.File.{TakesAtMost, most_of_engine}
-use Rattle.endgame_run.specs.Written.{Finishes}
+use Rattle.endgame_questions.specs.File.{TakesAtMost, most_of_engine}
+use Rattle.endgame_questions.specs.Written.{Finishes}
 use Rattle.endgame_run.specs.inner.Top.{IsClosed}
 use Rattle.endgame_run.proofs.SessionLaws.{behind, rose_later, told_written}
 

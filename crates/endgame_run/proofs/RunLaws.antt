@@ -1,26 +1,24 @@
 -- How the run of each command makes the run for its job.
-use Rattle.std.proofs.Common.{◌≡◌, ℕ, Bool, true, false, inl, inr, sym, subst, ◌∙◌, List}
+use Rattle.std.proofs.Common.{◌≡◌, ℕ, Bool, true, false, sym, subst, List}
 use Rattle.std.specs.Prelude.{Option, cond}
 use Rattle.desk_io.specs.Desk.{Desk, Input, Outside}
 use Rattle.go_grid.specs.declared.grid.Colour.{Colour}
 use Rattle.gd_words.specs.Job.{Job}
 use Rattle.gd_words.specs.Task.{Task}
 use Rattle.gd_words.specs.Task.Task.{ask, calc, gtp, play, trial}
-use Rattle.endgame_run.specs.declared.terms.GameTerms.{GameTerms}
+use Rattle.endgame_questions.specs.declared.terms.GameTerms.{GameTerms}
 use Rattle.gtp_engine.specs.declared.limits.EngineLimits.{EngineLimits}
 use Rattle.board_session.specs.declared.limits.BoardLimits.{BoardLimits}
-use Rattle.endgame_run.specs.Calc.{RunsCalc}
+use Rattle.endgame_questions.specs.Calc.{RunsCalc}
 use Rattle.endgame_run.specs.Engine.{AreSessionSteps, RunsEngine, board_rules, engine_rules}
-use Rattle.endgame_run.specs.File.{told_of}
+use Rattle.endgame_questions.specs.File.{told_of}
 use Rattle.endgame_run.specs.Game.{PlaysFile, question_of_game}
 use Rattle.endgame_run.specs.Limits.{board_limits, engine_limits, terms_of}
-use Rattle.endgame_run.specs.Question.{AnswersQuestion, AreToldSteps}
+use Rattle.endgame_questions.specs.Question.{AnswersQuestion, AreToldSteps}
 use Rattle.endgame_run.specs.Run.{AreTaskSteps, Runs, RunsTask}
-use Rattle.endgame_run.specs.Trial.{RunsTrial}
-use Rattle.endgame_run.specs.Written.{Finishes}
+use Rattle.endgame_questions.specs.Trial.{RunsTrial}
 use Rattle.gd_words.specs.declared.job.Question.{Question}
-use Rattle.endgame_run.specs.declared.status.Status.{Status}
-use Rattle.endgame_run.specs.declared.status.Status.TheVariants.{Done}
+use Rattle.endgame_questions.specs.declared.status.Status.{Status}
 
 module _ {H S K : Type 0} (o : Outside H S K) (job : Job) (a : Desk H S K) (status : Status) (b : Desk H S K) where
   pub question_runs : (q : Question) (terms : GameTerms) (word : List ℕ) → job.task ≡ ask q word → terms ≡ terms_of job → AnswersQuestion o q terms job.settings word a status b → Runs o job a status b
@@ -71,12 +69,3 @@ module _ (job : Job) (i j : Input) (before now : ℕ) where
   board_steps limits is own same h = task_steps gtp is
       (subst (λ k. AreSessionSteps (cond k (board_rules (board_limits job)) (engine_rules (engine_limits job))) i j before now) (sym own)
       (subst (λ l. AreSessionSteps (board_rules l) i j before now) same h))
-
--- the text as it was lent
-pub finishes_as : (s : Status) (t text : List ℕ) (w x : ℕ) (before now : Option (List ℕ)) (status : Status) → t ≡ text → Finishes s t w x before now status → Finishes s text w x before now status
-finishes_as s t text w x before now status e f = subst (λ y. Finishes s y w x before now status) e f
-
--- the status of a text that was written whole
-pub finished_done : (s : Status) (text : List ℕ) (w x : ℕ) (before now : Option (List ℕ)) (status : Status) → Finishes s text w x before now status → status ≡ Done → s ≡ Done
-finished_done s text w x before now status (inl f) done = sym f.0 ∙ done
-finished_done s text w x before now status (inr f) done = absurd cc

@@ -13,19 +13,19 @@ use Rattle.play_session.specs.declared.end.SessionEnd.{SessionEnd}
 use Rattle.play_session.specs.declared.end.SessionEnd.TheVariants as end
 use Rattle.play_session.specs.Session.{IsSession, Waits}
 use Rattle.play_session.specs.Written.{IsPlayed, IsUnread, Played, Session, standing}
-use Rattle.endgame_run.specs.declared.status.Status.{Status}
-use Rattle.endgame_run.specs.declared.status.Status.TheVariants.{CannotRead, CannotWrite, Done, Memory, TooManyLines}
-use Rattle.endgame_run.specs.declared.status.Status.TheVariants as status
+use Rattle.endgame_questions.specs.declared.status.Status.{Status}
+use Rattle.endgame_questions.specs.declared.status.Status.TheVariants.{CannotRead, CannotWrite, Done, Memory, TooManyLines}
+use Rattle.endgame_questions.specs.declared.status.Status.TheVariants as status
 use Rattle.endgame_run.specs.Game.{IsGameWritten, IsGameOver, IsPlayRun, IsPlayedGame, IsSessionOf, IsSessionStatus, IsStopped, game_beginning, question_of_game}
-use Rattle.endgame_run.specs.File.{TakesAtMost, most_of_game}
-use Rattle.endgame_run.specs.Written.{Finishes}
+use Rattle.endgame_questions.specs.File.{TakesAtMost, most_of_game}
+use Rattle.endgame_questions.specs.Written.{Finishes}
 use Rattle.desk_io.specs.Desk.{Input, Known}
 use Rattle.desk_io.specs.Lines.{UsesLines}
-use Rattle.endgame_run.specs.declared.terms.GameTerms.{GameTerms}
+use Rattle.endgame_questions.specs.declared.terms.GameTerms.{GameTerms}
 use Rattle.endgame_run.specs.declared.question.Opened.{Opened}
 use Rattle.endgame_run.specs.declared.question.Opened.TheVariants.{Fault, Game}
-use Rattle.endgame_run.specs.declared.question.Report.{Report}
-use Rattle.endgame_run.specs.Question.{IsAnswer}
+use Rattle.endgame_questions.specs.declared.question.Report.{Report}
+use Rattle.endgame_questions.specs.Question.{IsAnswer}
 use Rattle.endgame_run.specs.inner.Top.{IsOpened}
 use Rattle.sgf_go.specs.declared.settings.Settings.{Settings}
 use Rattle.go_play.specs.Setup.{Setup}

@@ -20,16 +20,16 @@ use Rattle.report.specs.Solution.{count_line, move_line, purse_line, regions_tex
 use Rattle.board_words.specs.Words.{colour_word, winner_line, word_line}
 use Rattle.endgame_run.specs.Limits.{terms_of}
 use Rattle.endgame_run.specs.Line.{HasOnlyLine}
-use Rattle.endgame_run.specs.Question.{IsAnswer}
+use Rattle.endgame_questions.specs.Question.{IsAnswer}
 use Rattle.endgame_run.specs.Run.{Runs, RunsTask, RunsWords}
 use Rattle.endgame_run.specs.Solve.{AreToSolve, AskToSolve, IsPosed, WritesMove, WritesWinner}
-use Rattle.endgame_run.specs.Written.{Reports}
+use Rattle.endgame_questions.specs.Written.{Reports}
 use Rattle.gd_words.specs.declared.job.CycleQuestion.TheVariants as cycle
 use Rattle.gd_words.specs.declared.job.Question.{Question}
 use Rattle.gd_words.specs.declared.job.Question.TheVariants as question
-use Rattle.endgame_run.specs.declared.status.Status.{Status}
-use Rattle.endgame_run.specs.declared.status.Status.TheVariants.{Done, Memory}
-use Rattle.endgame_run.specs.declared.status.Status.TheVariants as status
+use Rattle.endgame_questions.specs.declared.status.Status.{Status}
+use Rattle.endgame_questions.specs.declared.status.Status.TheVariants.{Done, Memory}
+use Rattle.endgame_questions.specs.declared.status.Status.TheVariants as status
 use Rattle.endgame_run.proofs.LineLaws.{Passes, name_passes, no_line_in, number_passes, passes_append, starts_line}
 
 -- the letter begins none of the lines of a state and its regions

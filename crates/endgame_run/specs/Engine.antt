@@ -22,10 +22,10 @@ use Rattle.board_session.specs.Asking as board_file
 use Rattle.board_session.specs.Session as board
 use Rattle.board_session.specs.Steps as board_steps
 use Rattle.board_orders.specs.States.{BoardState, first_state}
-use Rattle.endgame_run.specs.File.{TakesAtMost, most_of_engine}
+use Rattle.endgame_questions.specs.File.{TakesAtMost, most_of_engine}
 use Rattle.endgame_run.specs.Limits.{board_limits, engine_limits}
-use Rattle.endgame_run.specs.declared.status.Status.{Status}
-use Rattle.endgame_run.specs.declared.status.Status.TheVariants.{Done, CannotRead, CannotWrite, Memory, TooManyLines}
+use Rattle.endgame_questions.specs.declared.status.Status.{Status}
+use Rattle.endgame_questions.specs.declared.status.Status.TheVariants.{Done, CannotRead, CannotWrite, Memory, TooManyLines}
 
 -- a kind of session: its states, what is replied to a line where the shelf holds these files, for which file a line asks, which steps it takes,
 -- and where the session begins

@@ -13,20 +13,20 @@ use Rattle.go_play.specs.Setup.{Setup}
 use Rattle.engine_player.specs.EngineGame.{EngineGame}
 use Rattle.engine_player.specs.Opening.{OpensGame}
 use Rattle.whole_rules.specs.FirstWinningMove.{IsWinner}
-use Rattle.endgame_run.specs.declared.terms.GameTerms.{GameTerms}
+use Rattle.endgame_questions.specs.declared.terms.GameTerms.{GameTerms}
 use Rattle.play_session.specs.declared.end.SessionEnd.{SessionEnd}
 use Rattle.play_session.specs.declared.end.SessionEnd.TheVariants as end
 use Rattle.play_session.specs.Laws.{EndsWonKeeping, IsLineIn, KeepsWin, TakesBackNoKo}
 use Rattle.play_session.specs.Session.{Standing, Turns, IsNextLine, IsSession, Waits, BreaksOff}
-use Rattle.endgame_run.specs.File.{TakesAtMost, most_of_game, told_of}
-use Rattle.endgame_run.specs.Found.{IsPositionOf}
-use Rattle.endgame_run.specs.Question.{IsAnswer}
-use Rattle.endgame_run.specs.Written.{Reports}
+use Rattle.endgame_questions.specs.File.{TakesAtMost, most_of_game, told_of}
+use Rattle.endgame_questions.specs.Found.{IsPositionOf}
+use Rattle.endgame_questions.specs.Question.{IsAnswer}
+use Rattle.endgame_questions.specs.Written.{Reports}
 use Rattle.gd_words.specs.declared.job.CycleQuestion.TheVariants as cycle
 use Rattle.gd_words.specs.declared.job.Question.{Question}
 use Rattle.gd_words.specs.declared.job.Question.TheVariants.{Solve, WithCycles}
-use Rattle.endgame_run.specs.declared.status.Status.{Status}
-use Rattle.endgame_run.specs.declared.status.Status.TheVariants.{Done, CannotRead, CannotWrite, TooManyLines}
+use Rattle.endgame_questions.specs.declared.status.Status.{Status}
+use Rattle.endgame_questions.specs.declared.status.Status.TheVariants.{Done, CannotRead, CannotWrite, TooManyLines}
 
 -- the engine has the colour that is given, or else the side to move
 abbrev pub IsEngine : Option Colour → Setup → Colour → Type 0

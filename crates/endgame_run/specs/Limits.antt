@@ -3,7 +3,7 @@ use Rattle.gd_words.specs.Job.{Job}
 use Rattle.endgame_solver.specs.Limits.{Limits}
 use Rattle.gtp_engine.specs.declared.limits.EngineLimits.{EngineLimits}
 use Rattle.board_session.specs.declared.limits.BoardLimits.{BoardLimits}
-use Rattle.endgame_run.specs.declared.terms.GameTerms.{GameTerms}
+use Rattle.endgame_questions.specs.declared.terms.GameTerms.{GameTerms}
 
 -- the limits of a job
 abbrev pub limits_of : Job → Limits

@@ -4,16 +4,16 @@ use Rattle.desk_io.specs.Desk.{Desk, Input, Outside}
 use Rattle.gd_words.specs.Job.{IsOnlyJob, Job, SayNoJob}
 use Rattle.gd_words.specs.Task.{Task}
 use Rattle.gd_words.specs.Task.Task.{ask, calc, gtp, play, trial}
-use Rattle.endgame_run.specs.Calc.{RunsCalc}
+use Rattle.endgame_questions.specs.Calc.{RunsCalc}
 use Rattle.endgame_run.specs.Engine.{AreSessionSteps, RunsEngine, session_rules}
-use Rattle.endgame_run.specs.File.{told_of}
+use Rattle.endgame_questions.specs.File.{told_of}
 use Rattle.endgame_run.specs.Game.{PlaysFile, question_of_game}
 use Rattle.endgame_run.specs.Limits.{limits_of, terms_of}
-use Rattle.endgame_run.specs.Question.{AnswersQuestion, AreToldSteps}
-use Rattle.endgame_run.specs.Trial.{AreTrialSteps, RunsTrial}
-use Rattle.endgame_run.specs.Written.{Finishes}
-use Rattle.endgame_run.specs.declared.status.Status.{Status}
-use Rattle.endgame_run.specs.declared.status.Status.TheVariants.{Usage}
+use Rattle.endgame_questions.specs.Question.{AnswersQuestion, AreToldSteps}
+use Rattle.endgame_questions.specs.Trial.{AreTrialSteps, RunsTrial}
+use Rattle.endgame_questions.specs.Written.{Finishes}
+use Rattle.endgame_questions.specs.declared.status.Status.{Status}
+use Rattle.endgame_questions.specs.declared.status.Status.TheVariants.{Usage}
 
 module _ {H S K : Type 0} (o : Outside H S K) where
   -- what a run for a task comes to, with the settings and the limits of its job

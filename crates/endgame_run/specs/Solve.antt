@@ -4,7 +4,6 @@ use Rattle.std.specs.Io.KnownBytes.{append_known}
 use Rattle.desk_io.specs.Desk.{Input, Known}
 use Rattle.desk_io.specs.Files.{IsTold}
 use Rattle.go_grid.specs.declared.grid.Colour.{Colour}
-use Rattle.go_grid.specs.Region.{Region}
 use Rattle.sgf_go.specs.File.{HasFewBytes, Reads}
 use Rattle.go_play.specs.Setup.{Setup}
 use Rattle.gd_words.specs.Job.{IsOnlyJob, Job}
@@ -12,32 +11,15 @@ use Rattle.gd_words.specs.Task.Task.{ask}
 use Rattle.gd_words.specs.declared.job.CycleQuestion.TheVariants as cycle
 use Rattle.gd_words.specs.declared.job.Question.{Question}
 use Rattle.gd_words.specs.declared.job.Question.TheVariants.{Solve, WithCycles}
-use Rattle.region_cut.specs.Cut.{AreRegionsOfPlay}
 use Rattle.whole_rules.specs.FirstWinningMove.{IsFirstWinning}
 use Rattle.whole_rules.specs.WholeGame.{Whole}
 use Rattle.whole_rules.specs.declared.states.Move.{Move}
-use Rattle.endgame_solver.specs.Faults.{AreSound}
 use Rattle.endgame_solver.specs.Solved.{OpensAs}
-use Rattle.endgame_run.specs.declared.terms.GameTerms.{GameTerms}
 use Rattle.cycle_solver.specs.Winner.{TellsWinner}
 use Rattle.cycle_report.specs.CycleSolution.{winner_or_none}
-use Rattle.report.specs.Solution.{AreNumbersOfPositions, move_line, solve_text}
-use Rattle.endgame_run.specs.File.{told_of}
+use Rattle.report.specs.Solution.{move_line}
+use Rattle.endgame_questions.specs.File.{told_of}
 use Rattle.endgame_run.specs.Line.{HasOnlyLine}
-use Rattle.endgame_run.specs.Solution.{IsSolution}
-
--- the regions of play of a position, all sound within the limits, the number of positions of each, and the solution, in its text
-pub record IsSolved (terms : GameTerms) (setup : Setup) (text : List ℕ) : Type 0 where
-  pub regions : List Region
-  pub numbers : List ℕ
-  pub state : Whole
-  pub winner : Colour
-  pub move : Option Move
-  pub are_regions : AreRegionsOfPlay setup.board regions
-  pub sound : AreSound terms.limits regions
-  pub counted : AreNumbersOfPositions regions numbers
-  pub solution : IsSolution setup terms.tax state winner move
-  pub is : text ≡ solve_text state regions numbers winner move
 
 -- the question is who wins, by which move
 abbrev pub AsksWinner : Question → Type 0

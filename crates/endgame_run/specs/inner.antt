@@ -1,7 +1,2 @@
--- What loops and private calls keep; no public clause cites it.
+-- What private calls keep; no public clause cites it.
 pub mod Top
-pub mod File
-pub mod Found
-pub mod Position
-pub mod Refusal
-pub mod Trial

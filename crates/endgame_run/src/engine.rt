@@ -5,10 +5,9 @@ ghost use Rattle.desk_io.specs.Desk.{IsLater, desk, input_of, known, outside};
 ghost use Rattle.endgame_run.specs.Engine.{AreSessionSteps, RunsEngine, board_rules, engine_rules};
 ghost use Rattle.endgame_run.specs.inner.Top.{IsClosed};
 
-use crate::ending::finish;
-use crate::status::Status;
 use board_session::{BoardEngine, BoardLimits};
 use desk_io::{Shelf, Sink, Source};
+use endgame_questions::{Status, finish};
 use gtp_engine::{Engine, EngineLimits, GtpEnd};
 use local_play::Steps;
 use std::alloc::Global;

@@ -3,18 +3,16 @@
 ghost use Rattle.std.specs.Prelude.{◌≡◌, ◌≢◌, ◌≤◌, [], true, false, IfOk};
 ghost use Rattle.desk_io.specs.Desk.{IsLater, desk, input_of, known, outside};
 ghost use Rattle.engine_player.specs.Room.{CanTake};
-ghost use Rattle.endgame_run.specs.File.{ReadsFile, TakesAtMost, dash, most_of_game, told_of};
+ghost use Rattle.endgame_questions.specs.File.{ReadsFile, TakesAtMost, dash, most_of_game, told_of};
 ghost use Rattle.endgame_run.specs.Game.{IsPlayRun, PlaysFile, question_of_game};
-ghost use Rattle.endgame_run.specs.Question.{AreToldSteps};
-ghost use Rattle.endgame_run.specs.inner.Found.{HasRanges};
+ghost use Rattle.endgame_questions.specs.Question.{AreToldSteps};
+ghost use Rattle.endgame_questions.specs.Found.{HasRanges};
 ghost use Rattle.endgame_run.specs.inner.Top.{IsOpened};
 
-use crate::ending::finish;
-use crate::finding::find_position;
 use crate::opening::begin;
-use crate::question::{Found, Match, Opened};
-use crate::status::Status;
+use crate::question::{Match, Opened};
 use desk_io::{Shelf, Sink, Source};
+use endgame_questions::{Found, Status, find_position, finish};
 use local_play::Steps;
 use play_session::{MOST_TURNS, Session, SessionEnd};
 use sgf_go::Settings;

@@ -8,12 +8,11 @@ ghost use Rattle.region_cut.specs.Cut.{AreRegionsOfPlay};
 ghost use Rattle.endgame_run.specs.Game.{IsEngine};
 ghost use Rattle.endgame_run.specs.inner.Top.{IsBegun};
 
-use crate::cycles::refused_with_cycles;
 use crate::question::{Match, Opened};
-use crate::solving::refused;
-use crate::terms::GameTerms;
+use cycle_solver::MOST_CAPTURES;
+use endgame_questions::{GameTerms, refused, refused_with_cycles};
 use endgame_solver::Solved;
-use engine_player::{CyclePlayer, MOST_CAPTURES, Player};
+use engine_player::{CyclePlayer, Player};
 use go_grid::Colour;
 use local_play::Steps;
 use play_session::Session;

@@ -1,13 +1,14 @@
 //! The run of the program: its words, its files, its input and its output.
 
 ghost use Rattle.std.specs.Prelude.{◌≡◌, ◌<◌, IfOk, OnErr};
-ghost use Rattle.endgame_run.specs.Codes.{code_of};
-ghost use Rattle.endgame_run.specs.declared.status.Status.TheVariants.{Memory};
+ghost use Rattle.endgame_questions.specs.Codes.{code_of};
+ghost use Rattle.endgame_questions.specs.declared.status.Status.TheVariants.{Memory};
 
 use crate::console::{InputReader, Output, OutputWriter};
 use crate::file_limit::FileLimited;
-use crate::{Status, run};
+use crate::top::run;
 use desk_io::{FileShelf, Shelf, StdSink, StdSource};
+use endgame_questions::Status;
 use local_play::Steps;
 use std::alloc::{AllocError, Global};
 use std::env::Env;

@@ -11,17 +11,14 @@ ghost use Rattle.endgame_run.specs.Run.{AreSteps, AreTaskSteps, Runs, RunsWords}
 ghost use Rattle.endgame_run.specs.Solve.{AskToSolve, WritesMove, WritesWinner};
 ghost use Rattle.endgame_run.specs.inner.Top.{IsAsked};
 
-use crate::calc::run_calc;
-use crate::ending::finish;
 use crate::engine::{run_board, run_gtp};
 use crate::game::run_game;
-use crate::question::{Asked, Inquiry, Line, Match};
-use crate::run_question::run_question;
-use crate::status::Status;
-use crate::terms::GameTerms;
-use crate::trial::run_trial;
+use crate::question::{Asked, Match};
 use board_session::BoardLimits;
 use desk_io::{Shelf, Sink, Source};
+use endgame_questions::{
+    GameTerms, Inquiry, Line, Status, finish, run_calc, run_question, run_trial,
+};
 use endgame_solver::Limits;
 use gd_words::{Command, Job, Question};
 use gtp_engine::EngineLimits;

@@ -20,7 +20,7 @@ use Rattle.endgame_solver.proofs.BeginLaws.{one_regions}
 use Rattle.whole_budgets.specs.BudgetPlay.{AreBudgetsAfter, Budgeted, LeadsWithin, WinsWithBudgets}
 use Rattle.whole_budgets.specs.EnginePlay.{AreListedAfter, AreReducedBelow, ChoosesUnwon, EngineMoves, HasAtTurn, HoldsOff, IsLeastAt, KeepsWinning, MovesWith}
 use Rattle.cycle_solver.specs.CycleFaults.{AreSteadyWithin}
-use Rattle.engine_player.specs.declared.player.TheConstants.{MOST_CAPTURES}
+use Rattle.cycle_solver.specs.declared.limits.TheConstants.{MOST_CAPTURES}
 use Rattle.engine_player.specs.EngineGame.{EngineGame, EngineGoes, GoesByHand, MovesKeeping}
 use Rattle.engine_player.specs.Opening.{OpensGame, OpensNone}
 use Rattle.engine_player.specs.Played.{Keeping}

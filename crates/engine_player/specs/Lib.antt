@@ -2,5 +2,4 @@ pub mod Played
 pub mod EngineGame
 pub mod Opening
 pub mod Room
-pub mod Limits
 pub mod inner

@@ -7,7 +7,7 @@ use Rattle.endgame_solver.specs.Limits.{Limits}
 use Rattle.endgame_solver.specs.Faults.{AreSound}
 use Rattle.endgame_solver.specs.Solved.{IsPlayable}
 use Rattle.cycle_solver.specs.CycleFaults.{AreSteadyWithin}
-use Rattle.engine_player.specs.declared.player.TheConstants.{MOST_CAPTURES}
+use Rattle.cycle_solver.specs.declared.limits.TheConstants.{MOST_CAPTURES}
 use Rattle.engine_player.specs.Played.{BeginsPlay, Keeping}
 use Rattle.engine_player.specs.EngineGame.{EngineGame}
 

@@ -3,9 +3,7 @@
 
 mod cycle_player;
 mod kept;
-mod limits;
 mod player;
 
 pub use cycle_player::{CyclePlayer, MOST_MOVES};
-pub use limits::limit_laws;
-pub use player::{MOST_CAPTURES, Player};
+pub use player::Player;

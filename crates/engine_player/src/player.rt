@@ -11,9 +11,6 @@ use endgame_solver::Solved;
 use std::marker::Model;
 use whole_rules::{Move, MoveError, Whole};
 
-/// Where kos are admitted each region is to be steady for both colours with at most so many captures that return.
-pub const MOST_CAPTURES: u8 = 32;
-
 /// A game whose regions have no cycles, or may have them.
 #[derive(Drop)]
 pub(crate) enum Game {

@@ -6,6 +6,5 @@ pub mod AskingLemmas
 pub mod WinLemmas
 pub mod KomiLemmas
 pub mod RoomLemmas
-pub mod SizeLaws
 pub mod OneRequestLaws
 pub mod OneTextLaws

@@ -11,7 +11,7 @@ use Rattle.cycle_solver.specs.CycleFaults.{AreSteadyWithin, IsSteadyWithin}
 use Rattle.cycle_solver.specs.CycleFaults as steady
 use Rattle.cycle_solver.specs.declared.faults.CycleError.{CycleError}
 use Rattle.cycle_solver.specs.declared.faults.CycleError.TheVariants as unsteady
-use Rattle.engine_player.specs.declared.player.TheConstants.{MOST_CAPTURES}
+use Rattle.cycle_solver.specs.declared.limits.TheConstants.{MOST_CAPTURES}
 use Rattle.engine_player.specs.Played.{BeginsPlay}
 use Rattle.engine_player.specs.Opening.{OpensNone}
 use Rattle.endgame_solver.specs.Limits.{Limits}

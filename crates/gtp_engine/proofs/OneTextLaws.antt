@@ -35,7 +35,7 @@ use Rattle.gtp_engine.specs.Request.Asked.{something, unknown, misfit}
 use Rattle.gtp_engine.specs.Request.Order.{protocol_version, name, version, known_command, list_commands, boardsize, clear_board, komi, play, genmove, loadsgf, quit}
 use Rattle.gtp_engine.specs.Session.{AnswersLine, AnswersWords, Does, Generates, LoadsFile, Meets, Obeys, PlaysMove, PlaysWanted, RefusesWith, Said, SaysWhetherKnown, Table, TakesKomi, TakesSize, TakesTurn, done, first_table, fresh, is_last, refused, reply_text, with_side}
 use Rattle.gtp_engine.proofs.OneRequestLaws.{one_asked}
-use Rattle.gtp_engine.proofs.SizeLaws.{IsSmall, few_cells, small_setup}
+use Rattle.sgf_go.proofs.BoardSizeLemmas.{IsSmall, few_cells, small_setup}
 
 -- games that run differ in their lists of contested points alone
 abbrev AlikeGames : Option EngineGame → Option EngineGame → Type 0

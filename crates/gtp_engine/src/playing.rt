@@ -9,9 +9,9 @@ ghost use Rattle.engine_player.specs.Room.{CanTake};
 
 use crate::moves::{Wanted, find_move, write_move};
 use crate::reply::{Refusal, accept, refuse};
-use cycle_solver::CycleError;
+use cycle_solver::{CycleError, MOST_CAPTURES};
 use endgame_solver::{Limits, SolveError, Solved};
-use engine_player::{CyclePlayer, MOST_CAPTURES, Player};
+use engine_player::{CyclePlayer, Player};
 use game_text::Text;
 use local_play::Steps;
 use sgf_go::Setup;

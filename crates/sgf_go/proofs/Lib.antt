@@ -12,3 +12,4 @@ pub mod OneReadingLemmas
 pub mod UndeclaredLemmas
 pub mod MarkLemmas
 pub mod SealLemmas
+pub mod BoardSizeLemmas

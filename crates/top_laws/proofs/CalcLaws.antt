@@ -7,9 +7,9 @@ use Rattle.game_calc.specs.declared.errors.CalcError.TheVariants as calc
 use Rattle.game_calc.specs.declared.errors.CalcFault.{CalcFault}
 use Rattle.game_calc.specs.declared.errors.CalcFault.TheVariants as fault
 use Rattle.game_calc.proofs.OneLineLaws.{one-line}
-use Rattle.endgame_run.specs.declared.status.Status.{Status}
-use Rattle.endgame_run.specs.declared.status.Status.TheVariants as status
-use Rattle.endgame_run.specs.Calc.{IsCalc}
+use Rattle.endgame_questions.specs.declared.status.Status.{Status}
+use Rattle.endgame_questions.specs.declared.status.Status.TheVariants as status
+use Rattle.endgame_questions.specs.Calc.{IsCalc}
 use Rattle.top_laws.specs.Laws.{ExpressionHasOneStatus}
 
 -- the status of a line of so many bytes that is refused so

@@ -8,16 +8,16 @@ use Rattle.gd_words.specs.Job.{Job}
 use Rattle.gd_words.specs.Task.{Task}
 use Rattle.gd_words.specs.Task.Task.{ask, calc, gtp, play, trial}
 use Rattle.sgf_go.specs.declared.settings.Settings.{Settings}
-use Rattle.endgame_run.specs.declared.terms.GameTerms.{GameTerms}
+use Rattle.endgame_questions.specs.declared.terms.GameTerms.{GameTerms}
 use Rattle.endgame_run.specs.Limits.{terms_of}
 use Rattle.top_laws.specs.Output.{CountsWrites, HasCauses, HasReason, HoldsSession, IsDecided, IsPart, RefusesNoJob, WritesPart}
-use Rattle.endgame_run.specs.Question.{IsAnswer}
+use Rattle.endgame_questions.specs.Question.{IsAnswer}
 use Rattle.endgame_run.specs.Run.{RunsTask}
-use Rattle.endgame_run.specs.Written.{Reports}
+use Rattle.endgame_questions.specs.Written.{Reports}
 use Rattle.gd_words.specs.declared.job.Question.{Question}
-use Rattle.endgame_run.specs.declared.status.Status.{Status}
-use Rattle.endgame_run.specs.declared.status.Status.TheVariants.{CannotWrite, Done, Memory}
-use Rattle.endgame_run.specs.declared.status.Status.TheVariants as status
+use Rattle.endgame_questions.specs.declared.status.Status.{Status}
+use Rattle.endgame_questions.specs.declared.status.Status.TheVariants.{CannotWrite, Done, Memory}
+use Rattle.endgame_questions.specs.declared.status.Status.TheVariants as status
 
 -- want of memory and failed writes are decided of no text
 record IsProper (decided : Status → List ℕ → Type 0) : Type 0 where

@@ -15,22 +15,22 @@ use Rattle.sgf_go.proofs.OneReadingLemmas.{not_both, one_setup}
 use Rattle.gd_words.specs.Job.{Job}
 use Rattle.gd_words.specs.Task.{Task}
 use Rattle.gd_words.specs.Task.Task.{ask, calc, gtp, play, trial}
-use Rattle.endgame_run.specs.Calc.{IsCalc}
+use Rattle.endgame_questions.specs.Calc.{IsCalc}
 use Rattle.top_laws.specs.Complete.{HasManyCommands, HasManyLines, IsAnswerable, IsAnswered, IsCalm, IsComplete, IsDone, IsUnrefused, IsWithinLimits}
 use Rattle.endgame_run.specs.Engine.{IsEnginePlay, session_rules}
-use Rattle.endgame_run.specs.File.{count_of, told_of}
+use Rattle.endgame_questions.specs.File.{count_of, told_of}
 use Rattle.endgame_run.specs.Game.{IsPlayedGame, question_of_game}
 use Rattle.endgame_run.specs.Limits.{terms_of}
-use Rattle.endgame_run.specs.Question.{IsAnswer, IsFileAnswer, IsPositionAnswer}
+use Rattle.endgame_questions.specs.Question.{IsAnswer, IsFileAnswer, IsPositionAnswer}
 use Rattle.endgame_run.specs.Run.{RunsTask}
-use Rattle.endgame_run.specs.Trial.{IsTrialAnswer}
-use Rattle.endgame_run.specs.Written.{Reports}
-use Rattle.endgame_run.specs.declared.terms.GameTerms.{GameTerms}
+use Rattle.endgame_questions.specs.Trial.{IsTrialAnswer}
+use Rattle.endgame_questions.specs.Written.{Reports}
+use Rattle.endgame_questions.specs.declared.terms.GameTerms.{GameTerms}
 use Rattle.gd_words.specs.declared.job.Question.{Question}
 use Rattle.gd_words.specs.declared.job.Question.TheVariants as question
-use Rattle.endgame_run.specs.declared.status.Status.{Status}
-use Rattle.endgame_run.specs.declared.status.Status.TheVariants.{CannotRead, CannotWrite, Done, Memory, TooManyLines}
-use Rattle.endgame_run.specs.declared.status.Status.TheVariants as status
+use Rattle.endgame_questions.specs.declared.status.Status.{Status}
+use Rattle.endgame_questions.specs.declared.status.Status.TheVariants.{CannotRead, CannotWrite, Done, Memory, TooManyLines}
+use Rattle.endgame_questions.specs.declared.status.Status.TheVariants as status
 use Rattle.top_laws.proofs.CycleLaws.{steady_done}
 use Rattle.top_laws.proofs.GameWinLaws.{map_told}
 use Rattle.top_laws.proofs.OneStatusLaws.{file_or_position, plain_done, shows_shown, solves_sound}

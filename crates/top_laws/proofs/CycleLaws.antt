@@ -15,18 +15,18 @@ use Rattle.gd_words.specs.declared.job.Question.TheVariants as question
 use Rattle.endgame_solver.specs.Faults.{AreSmallRegions}
 use Rattle.endgame_solver.specs.Regions.{no_region, region_at}
 use Rattle.endgame_solver.specs.Limits.{Limits}
-use Rattle.endgame_run.specs.declared.terms.GameTerms.{GameTerms}
+use Rattle.endgame_questions.specs.declared.terms.GameTerms.{GameTerms}
 use Rattle.endgame_solver.proofs.BeginLaws.{one_regions}
 use Rattle.cycle_solver.specs.CycleFaults.{AreRefused, AreSteadyWithin, IsFaultOf, IsFirstFault, IsSteadyWithin}
 use Rattle.cycle_solver.specs.declared.faults.CycleError.{CycleError}
 use Rattle.cycle_solver.specs.declared.faults.CycleError.TheVariants.{Points, Positions, Form, Captures, Memory}
 use Rattle.cycle_report.specs.CycleValues.{HasShownValues, IsFirstCycleUnshown}
 use Rattle.cycle_report.proofs.CycleValuesLaws.{both_shown, shown_at}
-use Rattle.endgame_run.specs.Cycles.{AreCycleUnshown, HasCycleStatus, IsCycleQuestionRefused, IsCycleRefused, IsCycleText, IsSteadyFor, most_captures}
+use Rattle.endgame_questions.specs.Cycles.{AreCycleUnshown, HasCycleStatus, IsCycleQuestionRefused, IsCycleRefused, IsCycleText, IsSteadyFor, most_captures}
 use Rattle.top_laws.specs.Laws.{HasOneStatus, RefusesUnsteady, ShowsSteady, SolvesSteady}
-use Rattle.endgame_run.specs.Question.{IsPositionAnswer}
-use Rattle.endgame_run.specs.declared.status.Status.{Status}
-use Rattle.endgame_run.specs.declared.status.Status.TheVariants as status
+use Rattle.endgame_questions.specs.Question.{IsPositionAnswer}
+use Rattle.endgame_questions.specs.declared.status.Status.{Status}
+use Rattle.endgame_questions.specs.declared.status.Status.TheVariants as status
 use Rattle.top_laws.proofs.OneStatusLaws.{HasLarge, by_status, file_or_position, large_or_small, plain_status}
 
 -- a steady region has no fault

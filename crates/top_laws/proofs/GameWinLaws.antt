@@ -11,7 +11,7 @@ use Rattle.go_grid.specs.declared.grid.Colour.TheVariants.{Black, White}
 use Rattle.go_grid.specs.Chain.{IsSettled}
 use Rattle.sgf_go.specs.declared.settings.Settings.{Settings}
 use Rattle.go_play.specs.Setup.{Setup}
-use Rattle.endgame_run.specs.declared.terms.GameTerms.{GameTerms}
+use Rattle.endgame_questions.specs.declared.terms.GameTerms.{GameTerms}
 use Rattle.whole_budgets.specs.EnginePlay.{Serves}
 use Rattle.engine_player.specs.Played.{BothServe, Keeping}
 use Rattle.engine_player.specs.Opening.{OpensGame}
@@ -28,9 +28,9 @@ use Rattle.play_session.proofs.NamedWinnerLaws.{IsUnnamed, calm_unnamed, end_unn
 use Rattle.play_session.specs.Laws.{IsSoundKeeping}
 use Rattle.play_session.proofs.EndLaws.{session_keeps_ko, turns_sound, won_sessions_end}
 use Rattle.play_session.proofs.WinLaws.{win_is_kept}
-use Rattle.endgame_run.specs.declared.status.Status.{Status}
-use Rattle.endgame_run.specs.declared.status.Status.TheVariants.{CannotRead, CannotWrite, Done, Memory, TooManyLines}
-use Rattle.endgame_run.specs.declared.status.Status.TheVariants as status
+use Rattle.endgame_questions.specs.declared.status.Status.{Status}
+use Rattle.endgame_questions.specs.declared.status.Status.TheVariants.{CannotRead, CannotWrite, Done, Memory, TooManyLines}
+use Rattle.endgame_questions.specs.declared.status.Status.TheVariants as status
 use Rattle.endgame_run.specs.Game.{IsGame, IsGameWritten, IsLastLine, IsSessionStatus, IsStopped, IsWonGame, WinsFromHere, WinsFromThere, game_beginning}
 use Rattle.top_laws.specs.KeepsWin.{EngineKeepsWin, KeepsWin}
 use Rattle.endgame_run.specs.Run.{RunsTask}

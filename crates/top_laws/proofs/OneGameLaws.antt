@@ -6,7 +6,7 @@ use Rattle.go_grid.specs.declared.grid.Colour.{Colour}
 use Rattle.engine_player.specs.EngineGame.{EngineGame}
 use Rattle.play_session.specs.declared.end.SessionEnd.TheVariants as end
 use Rattle.play_session.proofs.OneTextLaws.{has_one_text}
-use Rattle.endgame_run.specs.declared.status.Status.TheVariants.{Done, TooManyLines}
+use Rattle.endgame_questions.specs.declared.status.Status.TheVariants.{Done, TooManyLines}
 use Rattle.endgame_run.specs.Game.{IsGameWritten, IsGameOver, game_beginning}
 use Rattle.top_laws.specs.Laws.{HasOneGame}
 

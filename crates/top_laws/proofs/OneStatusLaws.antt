@@ -7,23 +7,23 @@ use Rattle.go_grid.specs.Region.{Region}
 use Rattle.sgf_go.specs.declared.settings.Settings.{Settings}
 use Rattle.go_play.specs.Setup.{Setup}
 use Rattle.endgame_solver.specs.Limits.{Limits}
-use Rattle.endgame_run.specs.declared.terms.GameTerms.{GameTerms}
+use Rattle.endgame_questions.specs.declared.terms.GameTerms.{GameTerms}
 use Rattle.endgame_solver.specs.declared.faults.SolveError.{SolveError}
 use Rattle.endgame_solver.specs.declared.faults.SolveError.TheVariants.{Points, Positions, Cycle, Form, Memory}
 use Rattle.endgame_solver.specs.Faults.{AreRefused, AreSmallRegions, AreSound, IsFaultOf, IsFirstFault, IsSound}
 use Rattle.region_cut.specs.Cut.{AreRegionsOfPlay}
 use Rattle.endgame_solver.specs.Regions.{no_region, region_at}
-use Rattle.endgame_run.specs.declared.status.Status.{Status}
-use Rattle.endgame_run.specs.declared.status.Status.TheVariants as status
+use Rattle.endgame_questions.specs.declared.status.Status.{Status}
+use Rattle.endgame_questions.specs.declared.status.Status.TheVariants as status
 use Rattle.sgf_go.specs.declared.fault.FileFault.{FileFault}
 use Rattle.gd_words.specs.Task.{NeedsRegions, TakesNoCycles}
 use Rattle.gd_words.specs.declared.job.Question.{Question}
 use Rattle.gd_words.specs.declared.job.Question.TheVariants as question
 use Rattle.top_laws.specs.Laws.{RefusesFaults, RefusesUnshown, ShowsShown, SolvesSound}
 use Rattle.sgf_go.specs.File.{Reads}
-use Rattle.endgame_run.specs.Refusal.{HasStatus, IsRefused}
-use Rattle.endgame_run.specs.Question.{IsFileAnswer, IsPositionAnswer, IsQuestionRefused, IsTextOf}
-use Rattle.endgame_run.specs.Values.{AreUnshown, IsValued}
+use Rattle.endgame_questions.specs.Refusal.{HasStatus, IsRefused}
+use Rattle.endgame_questions.specs.Question.{IsFileAnswer, IsPositionAnswer, IsQuestionRefused, IsTextOf}
+use Rattle.endgame_questions.specs.Values.{AreUnshown, IsValued}
 use Rattle.endgame_solver.proofs.GraphLaws.{one_value}
 use Rattle.report.specs.Values.{HasShownValue, IsFirstUnshown, IsUnshown}
 use Rattle.report.proofs.ValuesLaws.{shown_at}

@@ -22,12 +22,12 @@ use Rattle.gtp_words.specs.declared.end.GtpEnd.TheVariants as end
 use Rattle.gtp_words.specs.Sessions.{Answers, Standing, StandsAt, TakesLine, TakesLines, beginning}
 use Rattle.gtp_words.specs.Steps.{Counted, StepsByEnd, WithSteps, counted}
 use Rattle.endgame_run.specs.Engine.{SessionRules, session_rules}
-use Rattle.endgame_run.specs.File.{told_of}
+use Rattle.endgame_questions.specs.File.{told_of}
 use Rattle.endgame_run.specs.Limits.{limits_of}
-use Rattle.endgame_run.specs.Question.{AreToldSteps}
+use Rattle.endgame_questions.specs.Question.{AreToldSteps}
 use Rattle.endgame_run.specs.Run.{AreTaskSteps}
 use Rattle.top_laws.specs.Steps.{AreLinesBefore, HaveLine, IdleTakesNoSteps, IsAbout, NeedsNoRegions, TakesFewSteps, TakesNoSteps}
-use Rattle.endgame_run.specs.Trial.{AreTrialSteps, IsTrialPosition, trial_limits}
+use Rattle.endgame_questions.specs.Trial.{AreTrialSteps, IsTrialPosition, trial_limits}
 
 -- the steps for the position of a file that is told
 told_few : (q : Question) (job : Job) (i : Input) (limits : Limits) (setup : Setup) (regions : List Region) (before now : ℕ) (w word file : List ℕ) → w ≡ word → limits ≡ limits_of job

@@ -5,12 +5,12 @@ use Rattle.desk_io.specs.Outside.{ended}
 use Rattle.gd_words.specs.Job.{Job}
 use Rattle.gd_words.specs.Task.{Task}
 use Rattle.gd_words.specs.Task.Task.{ask, calc, gtp, play, trial}
-use Rattle.endgame_run.specs.File.{TakesAtMost, dash}
+use Rattle.endgame_questions.specs.File.{TakesAtMost, dash}
 use Rattle.endgame_run.specs.Run.{RunsTask}
 use Rattle.top_laws.specs.Use.{AsksAbout, AsksShelf, LeavesLines, ReadsToEnd, TakesFew, TouchesLines, TouchesShelf, most_of}
-use Rattle.endgame_run.specs.declared.status.Status.{Status}
-use Rattle.endgame_run.specs.declared.status.Status.TheVariants.{Done}
-use Rattle.endgame_run.proofs.TopLaws.{nothing_taken}
+use Rattle.endgame_questions.specs.declared.status.Status.{Status}
+use Rattle.endgame_questions.specs.declared.status.Status.TheVariants.{Done}
+use Rattle.endgame_questions.proofs.AnswerLaws.{nothing_taken}
 
 module _ {H S K : Type 0} (o : Outside H S K) (job : Job) (a b : Desk H S K) (s : Status) where
   to_end : (task : Task) → RunsTask o task job a s b → s ≡ Done → AsksAbout task dash → o.sources.left b.lines ≡ ended (o.sources.left a.lines)

@@ -13,7 +13,7 @@ use Rattle.game_calc.specs.declared.errors.CalcFault.{CalcFault}
 use Rattle.gd_words.specs.Job.{Job}
 use Rattle.gd_words.specs.declared.job.Question.{Question}
 use Rattle.gd_words.specs.declared.job.Question.TheVariants.{Board, Safe, Values, WithCycles}
-use Rattle.endgame_run.specs.declared.terms.GameTerms.{GameTerms}
+use Rattle.endgame_questions.specs.declared.terms.GameTerms.{GameTerms}
 use Rattle.gd_words.specs.Task.{Task}
 use Rattle.gd_words.specs.Task.Task.{ask, calc, gtp, play, trial}
 use Rattle.region_cut.specs.Cut.{AreRegionsOfPlay}
@@ -22,16 +22,16 @@ use Rattle.endgame_solver.specs.Regions.{region_at}
 use Rattle.report.specs.Values.{HasShownValue}
 use Rattle.play_session.specs.declared.end.SessionEnd.TheVariants as end
 use Rattle.gtp_words.specs.declared.end.GtpEnd.TheVariants as gtp_end
-use Rattle.endgame_run.specs.Cycles.{IsSteadyFor}
+use Rattle.endgame_questions.specs.Cycles.{IsSteadyFor}
 use Rattle.endgame_run.specs.Engine.{AreFailedLoads, IsEngineSession, session_rules}
-use Rattle.endgame_run.specs.File.{told_of}
+use Rattle.endgame_questions.specs.File.{told_of}
 use Rattle.endgame_run.specs.Game.{IsGame, IsSessionOf, question_of_game}
 use Rattle.go_grid.specs.declared.grid.Colour.{Colour}
 use Rattle.engine_player.specs.EngineGame.{EngineGame}
 use Rattle.endgame_run.specs.Limits.{terms_of}
 use Rattle.endgame_run.specs.Run.{Runs}
-use Rattle.endgame_run.specs.declared.status.Status.{Status}
-use Rattle.endgame_run.specs.declared.status.Status.TheVariants.{Done, Memory, TooManyLines}
+use Rattle.endgame_questions.specs.declared.status.Status.{Status}
+use Rattle.endgame_questions.specs.declared.status.Status.TheVariants.{Done, Memory, TooManyLines}
 
 -- the regions of play that the question asks about are all sound within its limits, or steady where they may have cycles, and the values that
 -- it asks for can all be shown

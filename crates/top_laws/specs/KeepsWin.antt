@@ -13,7 +13,7 @@ use Rattle.engine_player.specs.EngineGame.{EngineGame}
 use Rattle.endgame_run.specs.Game.{IsGame, IsUnplayed, IsWonGame, WinsFromThere}
 use Rattle.endgame_run.specs.Limits.{terms_of}
 use Rattle.endgame_run.specs.Run.{Runs}
-use Rattle.endgame_run.specs.declared.status.Status.{Status}
+use Rattle.endgame_questions.specs.declared.status.Status.{Status}
 
 -- a game of the file of the word was played; where the engine wins at its opening it keeps its win, and from a later state that it wins too
 abbrev pub PlaysWon : Job → List ℕ → Known → Known → Type 0

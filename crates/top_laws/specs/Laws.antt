@@ -5,13 +5,13 @@ use Rattle.go_grid.specs.declared.grid.Colour.{Colour}
 use Rattle.go_grid.specs.Region.{Region}
 use Rattle.sgf_go.specs.declared.settings.Settings.{Settings}
 use Rattle.go_play.specs.Setup.{Setup}
-use Rattle.endgame_run.specs.declared.terms.GameTerms.{GameTerms}
+use Rattle.endgame_questions.specs.declared.terms.GameTerms.{GameTerms}
 use Rattle.endgame_solver.specs.declared.faults.SolveError.{SolveError}
 use Rattle.endgame_solver.specs.Faults.{AreRefused, AreSound}
 use Rattle.region_cut.specs.Cut.{AreRegionsOfPlay}
-use Rattle.endgame_run.specs.declared.status.Status.{Status}
+use Rattle.endgame_questions.specs.declared.status.Status.{Status}
 use Rattle.engine_player.specs.EngineGame.{EngineGame}
-use Rattle.endgame_run.specs.declared.status.Status.TheVariants.{Done, FormLimit, TooManyLines}
+use Rattle.endgame_questions.specs.declared.status.Status.TheVariants.{Done, FormLimit, TooManyLines}
 use Rattle.gd_words.specs.Task.{NeedsRegions, TakesNoCycles}
 use Rattle.gd_words.specs.declared.job.CycleQuestion.{CycleQuestion}
 use Rattle.gd_words.specs.declared.job.CycleQuestion.TheVariants as cycle
@@ -23,11 +23,11 @@ use Rattle.cycle_solver.specs.CycleFaults.{AreSteadyWithin}
 use Rattle.cycle_solver.specs.CycleFaults as unsteady
 use Rattle.cycle_solver.specs.declared.faults.CycleError.{CycleError}
 use Rattle.cycle_report.specs.CycleValues.{HasShownValues, IsFirstCycleUnshown}
-use Rattle.endgame_run.specs.Calc.{IsCalc}
-use Rattle.endgame_run.specs.Cycles.{HasCycleStatus, most_captures}
+use Rattle.endgame_questions.specs.Calc.{IsCalc}
+use Rattle.endgame_questions.specs.Cycles.{HasCycleStatus, most_captures}
 use Rattle.endgame_run.specs.Game.{IsGameWritten}
-use Rattle.endgame_run.specs.Refusal.{HasStatus}
-use Rattle.endgame_run.specs.Question.{IsFileAnswer, IsPositionAnswer}
+use Rattle.endgame_questions.specs.Refusal.{HasStatus}
+use Rattle.endgame_questions.specs.Question.{IsFileAnswer, IsPositionAnswer}
 
 -- a question about a file has at most one status
 abbrev pub HasOneStatus : Type 0

@@ -6,15 +6,15 @@ use Rattle.desk_io.specs.Outside.{Rose}
 use Rattle.gd_words.specs.Job.{Job, SayNoJob}
 use Rattle.gd_words.specs.Task.{Task}
 use Rattle.gd_words.specs.Task.Task.{ask, calc, gtp, play, trial}
-use Rattle.endgame_run.specs.Calc.{IsCalc}
+use Rattle.endgame_questions.specs.Calc.{IsCalc}
 use Rattle.endgame_run.specs.Engine.{IsEnginePlay, session_rules}
 use Rattle.endgame_run.specs.Game.{IsPlayedGame, question_of_game}
 use Rattle.endgame_run.specs.Limits.{terms_of}
-use Rattle.endgame_run.specs.Question.{IsAnswer}
+use Rattle.endgame_questions.specs.Question.{IsAnswer}
 use Rattle.endgame_run.specs.Run.{Runs, RunsWords}
-use Rattle.endgame_run.specs.Trial.{IsTrialAnswer}
-use Rattle.endgame_run.specs.declared.status.Status.{Status}
-use Rattle.endgame_run.specs.declared.status.Status.TheVariants.{CannotWrite, Done, Memory, Usage}
+use Rattle.endgame_questions.specs.Trial.{IsTrialAnswer}
+use Rattle.endgame_questions.specs.declared.status.Status.{Status}
+use Rattle.endgame_questions.specs.declared.status.Status.TheVariants.{CannotWrite, Done, Memory, Usage}
 
 -- The statuses of a task that are decided at once, and their texts, by what is known of the input before and after: what keeps a file
 -- from being solved keeps it from being played. A session decides by its turns.

@@ -13,10 +13,10 @@ use Rattle.region_cut.specs.Cut.{AreRegionsOfPlay}
 use Rattle.endgame_solver.specs.Faults.{most_steps}
 use Rattle.endgame_solver.specs.Limits.{Limits}
 use Rattle.endgame_run.specs.Engine.{AreSessionSteps, session_rules}
-use Rattle.endgame_run.specs.File.{told_of}
+use Rattle.endgame_questions.specs.File.{told_of}
 use Rattle.endgame_run.specs.Limits.{limits_of}
 use Rattle.endgame_run.specs.Run.{AreTaskSteps}
-use Rattle.endgame_run.specs.Trial.{IsTrialPosition, trial_limits}
+use Rattle.endgame_questions.specs.Trial.{IsTrialPosition, trial_limits}
 
 -- the file that a task is about
 abbrev pub file_of : Task → Option (List ℕ)

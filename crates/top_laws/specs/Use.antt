@@ -6,12 +6,12 @@ use Rattle.gd_words.specs.Job.{Job}
 use Rattle.gd_words.specs.Task.{Task}
 use Rattle.gd_words.specs.Task.Task.{ask, gtp, play}
 use Rattle.endgame_run.specs.Engine.{AsksForLines, session_rules}
-use Rattle.endgame_run.specs.File.{TakesAtMost, dash, most_of_engine, most_of_file, most_of_game}
+use Rattle.endgame_questions.specs.File.{TakesAtMost, dash, most_of_engine, most_of_file, most_of_game}
 use Rattle.endgame_run.specs.Game.{IsPlayedGame}
 use Rattle.endgame_run.specs.Limits.{terms_of}
 use Rattle.endgame_run.specs.Run.{Runs}
-use Rattle.endgame_run.specs.declared.status.Status.{Status}
-use Rattle.endgame_run.specs.declared.status.Status.TheVariants.{Done}
+use Rattle.endgame_questions.specs.declared.status.Status.{Status}
+use Rattle.endgame_questions.specs.declared.status.Status.TheVariants.{Done}
 
 -- the task asks a question about the file of the word
 abbrev pub AsksAbout : Task → List ℕ → Type 0

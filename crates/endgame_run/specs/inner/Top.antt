@@ -1,5 +1,5 @@
 -- What the parts of the top call answer.
-use Rattle.std.specs.Prelude.{◌≡◌, ◌≢◌, codes, ℕ, ℤ, [], List, Bool, Option, true, false}
+use Rattle.std.specs.Prelude.{◌≡◌, ◌≢◌, codes, ℕ, [], List, Bool, Option, true, false}
 use Rattle.desk_io.specs.Desk.{Input}
 use Rattle.go_grid.specs.declared.grid.Colour.{Colour}
 use Rattle.go_grid.specs.Chain.{IsSettled}
@@ -7,32 +7,20 @@ use Rattle.sgf_go.specs.declared.settings.Settings.{Settings}
 use Rattle.go_play.specs.Setup.{Setup}
 use Rattle.gd_words.specs.Job.{Job}
 use Rattle.gd_words.specs.Task.Task.{ask, calc, gtp, play, trial}
-use Rattle.gd_words.specs.declared.job.CycleQuestion.{CycleQuestion}
-use Rattle.gd_words.specs.declared.job.CycleQuestion.TheVariants as cycle
-use Rattle.gd_words.specs.declared.job.Question.{Question}
-use Rattle.gd_words.specs.declared.job.Question.TheVariants as question
-use Rattle.endgame_solver.specs.Solved.{Solved}
 use Rattle.engine_player.specs.Opening.{OpensGame}
-use Rattle.endgame_run.specs.declared.terms.GameTerms.{GameTerms}
+use Rattle.endgame_questions.specs.declared.terms.GameTerms.{GameTerms}
 use Rattle.gtp_words.specs.declared.end.GtpEnd.{GtpEnd}
 use Rattle.gtp_words.specs.declared.end.GtpEnd.TheVariants as end
-use Rattle.fault_words.specs.declared.naming.Naming.TheVariants.{Letters}
-use Rattle.report.specs.Analysis.{IsLineText, IsMarginText, IsMovesText, name_on}
-use Rattle.cycle_report.specs.CycleValues.{IsCycleValuesText, IsFirstCycleUnshown}
-use Rattle.report.specs.Solution.{IsSolveText}
-use Rattle.report.specs.Values.{IsFirstUnshown, IsValuesText}
-use Rattle.endgame_run.specs.Cycles.{IsGameText}
 use Rattle.endgame_run.specs.Game.{IsEngine, IsGame, question_of_game}
 use Rattle.endgame_run.specs.Limits.{board_limits, engine_limits, terms_of}
-use Rattle.endgame_run.specs.Question.{IsAnswer, IsPositionAnswer}
-use Rattle.endgame_run.specs.Refusal.{form_line}
-use Rattle.endgame_run.specs.Written.{Finishes}
+use Rattle.endgame_questions.specs.Question.{IsAnswer, IsPositionAnswer}
+use Rattle.endgame_questions.specs.Written.{Finishes}
 use Rattle.endgame_run.specs.declared.question.Asked.{Asked}
 use Rattle.endgame_run.specs.declared.question.Asked.TheVariants as asked
 use Rattle.endgame_run.specs.declared.question.Opened.{Opened}
 use Rattle.endgame_run.specs.declared.question.Opened.TheVariants.{Game, Fault}
-use Rattle.endgame_run.specs.declared.status.Status.{Status}
-use Rattle.endgame_run.specs.declared.status.Status.TheVariants.{CannotRead, CannotWrite, Done, FormLimit, Memory, TooManyLines}
+use Rattle.endgame_questions.specs.declared.status.Status.{Status}
+use Rattle.endgame_questions.specs.declared.status.Status.TheVariants.{CannotRead, CannotWrite, Done, Memory, TooManyLines}
 
 -- the job asks a question within its limits, or for a game, with its colour for the engine, for the board of a number, for the answer to
 -- an expression within its limit of parts, or for the engine within its limits, with a board of its own or without
@@ -52,32 +40,6 @@ IsClosed end.ReadFault kb kn before now result = Finishes CannotRead (codes "fau
 IsClosed end.WriteFault kb kn before now result = (result ≡ CannotWrite) × (now ≡ before)
 IsClosed end.TooManyLines kb kn before now result = Finishes TooManyLines (codes "fault lines\n") kb kn before now result
 IsClosed end.Memory kb kn before now result = (result ≡ Memory) × (now ≡ before)
-
--- the report on the values of a solved game
-abbrev pub IsValuesReport : Solved → Status → List ℕ → Type 0
-IsValuesReport game Done text = IsValuesText game.state.board.columns game.regions text
-IsValuesReport game FormLimit text = (p : ℕ) × IsFirstUnshown game.regions p × (text ≡ form_line game.state.board.columns p)
-IsValuesReport game s text = ⊥
-
--- the report on a question about a solved game that opens with this komi in half-points
-abbrev pub IsGameReport : Question → ℤ → Solved → Status → List ℕ → Type 0
-IsGameReport question.Solve k game s text = (s ≡ Done) × IsSolveText game text
-IsGameReport question.Margin k game s text = (s ≡ Done) × IsMarginText game.state k text
-IsGameReport question.Moves k game s text = (s ≡ Done) × IsMovesText (name_on Letters game.state.board) game.state k text
-IsGameReport question.Line k game s text = (s ≡ Done) × IsLineText (name_on Letters game.state.board) game.regions game.state k text
-IsGameReport question.Values k game s text = IsValuesReport game s text
-IsGameReport q k game s text = ⊥
-
--- the report on the values of a game with cycles
-abbrev pub IsCycleValuesReport : Solved → Status → List ℕ → Type 0
-IsCycleValuesReport game Done text = IsCycleValuesText game.state.board.columns game.regions text
-IsCycleValuesReport game FormLimit text = (p : ℕ) × IsFirstCycleUnshown game.regions p × (text ≡ form_line game.state.board.columns p)
-IsCycleValuesReport game s text = ⊥
-
--- the report on a question about a game with cycles that opens with this komi in half-points
-abbrev pub IsCycleReport : CycleQuestion → ℤ → Solved → Status → List ℕ → Type 0
-IsCycleReport cycle.Values k game s text = IsCycleValuesReport game s text
-IsCycleReport q k game s text = (s ≡ Done) × IsGameText q k game text
 
 -- a session that begins with the position, or the report of what keeps it from being solved
 abbrev pub IsBegun : GameTerms → Bool → Option Colour → Setup → Opened → Type 0

@@ -7,9 +7,9 @@ use Rattle.board_orders.specs.States.{BoardState, first_state}
 use Rattle.board_session.specs.Steps.{AreLineSteps}
 use Rattle.desk_io.specs.Desk.{desk, input_of, known, outside}
 use Rattle.endgame_run.specs.Engine.{board_rules}
-use Rattle.endgame_run.specs.File.{most_of_engine}
+use Rattle.endgame_questions.specs.File.{most_of_engine}
 use Rattle.endgame_run.proofs.EngineLaws.{asked_behind, asked_nothing, engine_ran, engine_refused, no_session_steps, session_steps, session_taken}
-use Rattle.endgame_run.proofs.TopLaws.{later_refl, nothing_taken, rest_of}
+use Rattle.endgame_questions.proofs.AnswerLaws.{later_refl, nothing_taken, rest_of}
 use Rattle.endgame_run.proofs.engine.run_board.Goals as goal
 
 pub returns-in_default-clause-ran : goal.returns-in_default-clause-ran

@@ -1,9 +1,10 @@
 use Rattle.desk_io.specs.Desk.{input_of}
 use Rattle.std.proofs.Common.{inr}
 use Rattle.endgame_run.specs.Game.{question_of_game}
-use Rattle.endgame_run.proofs.StepLaws.{needed_steps}
-use Rattle.endgame_run.proofs.TopLaws.{begun_opened, found_position, game_needs}
-use Rattle.endgame_run.proofs.UndeclaredLaws.{position_may_tax}
+use Rattle.endgame_questions.proofs.StepLaws.{needed_steps}
+use Rattle.endgame_run.proofs.TopLaws.{begun_opened, game_needs}
+use Rattle.endgame_questions.proofs.AnswerLaws.{found_position}
+use Rattle.endgame_questions.proofs.UndeclaredLaws.{position_may_tax}
 use Rattle.endgame_run.proofs.game.open_game.Goals as goal
 
 pub returns-in_ok-opened-in-Position-clause-opened : goal.returns-in_ok-opened-in-Position-clause-opened

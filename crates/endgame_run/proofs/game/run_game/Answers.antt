@@ -1,10 +1,9 @@
 use Rattle.std.proofs.Common.{subst, sym, inl, inr, refl, arith}
 use Rattle.desk_io.specs.Desk.{desk, input_of, known, outside}
-use Rattle.endgame_run.specs.File.{TakesAtMost, most_of_game}
+use Rattle.endgame_questions.specs.File.{TakesAtMost, most_of_game}
 use Rattle.endgame_run.specs.Game.{IsPlayRun}
-use Rattle.endgame_run.proofs.RunLaws.{finishes_as}
+use Rattle.endgame_questions.proofs.AnswerLaws.{finishes_as, nothing_taken, rest_of}
 use Rattle.endgame_run.proofs.SessionLaws.{opened_fault, opened_game, opened_room}
-use Rattle.endgame_run.proofs.TopLaws.{nothing_taken, rest_of}
 use Rattle.endgame_run.proofs.game.run_game.Goals as goal
 
 pub returns-in-Ok-Game-clause-ran : goal.returns-in-Ok-Game-clause-ran

@@ -1,10 +1,10 @@
 use Rattle.std.proofs.Common.{subst, sym, ap, ◌∙◌, length}
 use Rattle.gd_words.specs.declared.job.Question.TheVariants.{Solve}
-use Rattle.endgame_run.specs.Refusal.{refusal_line}
+use Rattle.endgame_questions.specs.Refusal.{refusal_line}
 use Rattle.fault_words.specs.NamedPoints.{NamesPoints}
 use Rattle.fault_words.proofs.NamedPointLemmas.{names_points}
-use Rattle.endgame_run.proofs.RefusalLaws.{is_refused}
-use Rattle.endgame_run.proofs.TopLaws.{refused_answer}
+use Rattle.endgame_questions.proofs.RefusalLaws.{is_refused}
+use Rattle.endgame_questions.proofs.AnswerLaws.{refused_answer}
 use Rattle.endgame_run.proofs.opening.begin_plain.Goals as goal
 
 pub refused-requires : goal.refused-requires

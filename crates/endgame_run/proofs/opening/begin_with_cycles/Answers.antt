@@ -1,8 +1,8 @@
 use Rattle.std.proofs.Common.{subst, sym, ap, ◌∙◌, length}
 use Rattle.gd_words.specs.declared.job.CycleQuestion.TheVariants as cycle
-use Rattle.endgame_run.specs.Cycles.{cycle_refusal_line}
-use Rattle.endgame_run.specs.inner.Refusal.{NamesCyclePoints}
-use Rattle.endgame_run.proofs.CycleAnswers.{cycle_fault_answer, cycle_fault_undone, fault_begun, names_cycle_points}
+use Rattle.endgame_questions.specs.Cycles.{NamesCyclePoints, cycle_refusal_line}
+use Rattle.endgame_questions.proofs.CycleAnswers.{cycle_fault_answer, cycle_fault_undone, names_cycle_points}
+use Rattle.endgame_run.proofs.TopLaws.{fault_begun}
 use Rattle.endgame_run.proofs.opening.begin_with_cycles.Goals as goal
 
 pub refused_with_cycles-requires : goal.refused_with_cycles-requires

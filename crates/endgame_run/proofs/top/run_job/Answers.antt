@@ -2,7 +2,7 @@ use Rattle.std.proofs.Common.{ap, refl, subst, sym, ◌∙◌}
 use Rattle.desk_io.specs.Desk.{desk, input_of, known, outside}
 use Rattle.gd_words.specs.Viewed.{viewed}
 use Rattle.endgame_run.specs.inner.Top.{IsAsked}
-use Rattle.endgame_run.proofs.TopLaws.{later_refl}
+use Rattle.endgame_questions.proofs.AnswerLaws.{later_refl}
 use Rattle.endgame_run.proofs.RunLaws.{board_runs, board_steps, calc_runs, engine_runs, engine_steps, game_runs, game_steps, question_runs, question_steps, trial_runs}
 use Rattle.endgame_run.proofs.top.run_job.Goals as goal
 

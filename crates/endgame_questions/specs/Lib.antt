@@ -1,0 +1,15 @@
+pub mod Codes
+pub mod Solution
+pub mod Texts
+pub mod File
+pub mod Position
+pub mod Found
+pub mod Refusal
+pub mod Written
+pub mod Values
+pub mod Analysis
+pub mod Cycles
+pub mod Question
+pub mod Trial
+pub mod Calc
+pub mod inner
